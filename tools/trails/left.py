@@ -10,5 +10,4 @@ FAULTS = {
 }
 
 # sentences of definitions that have no comment of their own, or share one
-SENTENCES = {
-}
+SENTENCES: dict[str, str] = {}

@@ -1,6 +1,47 @@
 -- Leaf values where the usable rows of one vehicle alone changed.
-use Rattle.std.proofs.Common.{◌≡◌, ◌≢◌, ℕ, zero, suc, ◌<◌, List, ℤ, pos, negsuc, ◌+ℤ◌, ◌-ℤ◌, FitsSigned, to_z, of_z, sym, ap, ◌∙◌, inl, inr, arith, unwrap_or, rules}
-use Rattle.assignment_search.proofs.Common.{w128, ints, cases_eq, int_sum_below, Graph, row_vehicle, Usable, vehicle_term, leaf_value, IsSmall, IsSmallSum, only_row, without_row, int_sum_same, least_below_agrees, nat_tests}
+use Rattle.std.proofs.Common.{
+  ◌≡◌,
+  ◌≢◌,
+  ℕ,
+  zero,
+  suc,
+  ◌<◌,
+  List,
+  ℤ,
+  pos,
+  negsuc,
+  ◌+ℤ◌,
+  ◌-ℤ◌,
+  FitsSigned,
+  to_z,
+  of_z,
+  sym,
+  ap,
+  ◌∙◌,
+  inl,
+  inr,
+  arith,
+  unwrap_or,
+  rules,
+}
+use Rattle.assignment_search.proofs.Common.{
+  w128,
+  ints,
+  cases_eq,
+  int_sum_below,
+  Graph,
+  row_vehicle,
+  Usable,
+  vehicle_term,
+  leaf_value,
+  IsSmall,
+  IsSmallSum,
+  only_row,
+  without_row,
+  int_sum_same,
+  least_below_agrees,
+  nat_tests,
+}
 use Rattle.std.proofs.lemmas.Int.{to_z-of_z}
 use Rattle.assignment_search.specs.work.Apart.{AgreeApart}
 
@@ -9,14 +50,21 @@ int_sum_moved : (n v : ℕ) (f h : ℕ → ℤ) → v < n → ((w : ℕ) → w <
 int_sum_moved zero v f h l e = absurd (omega (arith, l))
 int_sum_moved (suc n) v f h l e = elim (cases_eq v n) [
   | inl here ↦ omega (arith, ints, int_sum_same n f h (λ w low. e w (omega (arith, low)) (λ is. omega (arith, low, is, here))), ap f here, ap h here)
-  | inr other ↦ omega (arith, ints, int_sum_moved n v f h (omega (arith, l, other)) (λ w low. e w (omega (arith, low))), e n (omega arith) (λ is. other (sym is)))
+  | inr other ↦ omega (
+    arith,
+    ints,
+    int_sum_moved n v f h (omega (arith, l, other)) (λ w low. e w (omega (arith, low))),
+    e n (omega arith)
+        (λ is. other (sym is)),
+  )
 ]
 
 term_apart : (g : Graph) (u w : Usable) (ms : List ℤ) (v x : ℕ) → AgreeApart g v u w → x ≢ v → vehicle_term g u ms x ≡ vehicle_term g w ms x
 term_apart g u w ms v x e other = search (rules, unwrap_or, least_below_agrees, nat_tests)
 
 -- a value changes by the changed vehicle's part
-pub value_moved : (g : Graph) (u w : Usable) (ms : List ℤ) (v : ℕ) (z old new : ℤ) → v < g.vehicles → AgreeApart g v u w → z ≡ leaf_value g u ms → old ≡ vehicle_term g u ms v → new ≡ vehicle_term g w ms v → (z -ℤ old) +ℤ new ≡ leaf_value g w ms
+pub value_moved : (g : Graph) (u w : Usable) (ms : List ℤ) (v : ℕ) (z old new : ℤ) → v < g.vehicles → AgreeApart g v u w → z ≡ leaf_value g u ms →
+    old ≡ vehicle_term g u ms v → new ≡ vehicle_term g w ms v → (z -ℤ old) +ℤ new ≡ leaf_value g w ms
 unfolding leaf_value
 value_moved g u w ms v z old new low e value was is =
     let moved = int_sum_moved g.vehicles v (vehicle_term g u ms) (vehicle_term g w ms) low (λ x l other. term_apart g u w ms v x e other) in

@@ -1,6 +1,52 @@
 -- What it costs to give one vehicle another row.
-use Rattle.std.proofs.Common.{◌≡◌, ℕ, zero, suc, ◌+◌, ◌*◌, ◌<◌, ◌≤◌, false, IsTrue, List, length, get_or, set, Option, Some, None, inl, inr, sym, ap, ◌∙◌, subst, arith}
-use Rattle.assignment_search.proofs.Common.{cases_eq, sum_below, Graph, IsGoodGraph, riders_at, cost_at, has_rider, choice_at, is_in, must_be_served, IsLawful, choice_cost, cost_of, left_out, flag, flag-true, flag-false, sum_below_same, times_served_as_count, BettersNothing}
+use Rattle.std.proofs.Common.{
+  ◌≡◌,
+  ℕ,
+  zero,
+  suc,
+  ◌+◌,
+  ◌*◌,
+  ◌<◌,
+  ◌≤◌,
+  false,
+  IsTrue,
+  List,
+  length,
+  get_or,
+  set,
+  Option,
+  Some,
+  None,
+  inl,
+  inr,
+  sym,
+  ap,
+  ◌∙◌,
+  subst,
+  arith,
+}
+use Rattle.assignment_search.proofs.Common.{
+  cases_eq,
+  sum_below,
+  Graph,
+  IsGoodGraph,
+  riders_at,
+  cost_at,
+  has_rider,
+  choice_at,
+  is_in,
+  must_be_served,
+  IsLawful,
+  choice_cost,
+  cost_of,
+  left_out,
+  flag,
+  flag-true,
+  flag-false,
+  sum_below_same,
+  times_served_as_count,
+  BettersNothing,
+}
 use Rattle.std.proofs.lemmas.List.{get_or_default, get_or-set_same, get_or-set_other}
 use Rattle.plan_rules.specs.Graph.{no_row}
 use Rattle.plan_rules.specs.declared.row.TripRow.{TripRow}
@@ -13,7 +59,8 @@ pub sum_set : (n : ℕ) (f : Option ℕ → ℕ) (chosen : List (Option ℕ)) (v
 sum_set zero f chosen v c low within = absurd (omega arith)
 sum_set (suc n) f chosen v c low within = elim (cases_eq v n) [
   | inl last ↦
-      let below = sum_below_same n (λ w. f (choice_at (set chosen v c) w)) (λ w. f (choice_at chosen w)) (λ w lt. ap f (get_or-set_other chosen v w c None (λ e. omega (arith, lt, last, e)))) in
+      let below = sum_below_same n (λ w. f (choice_at (set chosen v c) w)) (λ w. f (choice_at chosen w))
+      (λ w lt. ap f (get_or-set_other chosen v w c None (λ e. omega (arith, lt, last, e)))) in
       let new : f (choice_at (set chosen v c) n) ≡ f c = ap f (ap (choice_at (set chosen v c)) (sym last) ∙ get_or-set_same chosen v c None within) in
       let old : f (choice_at chosen v) ≡ f (choice_at chosen n) = ap (λ (w : ℕ). f (choice_at chosen w)) last in
       omega (arith, below, new, old)
@@ -35,7 +82,8 @@ dear_betters_nothing g chosen v j k good lawful low chooses dear changed =
     let before = served_or_left g chosen good lawful in
     let after = served_or_left g (set chosen v (Some k)) good changed in
     let lefts : left_out g (set chosen v (Some k)) + length (riders_at g k) ≡ left_out g chosen + length (riders_at g j) = omega arith in
-    let prices : g.penalty * (left_out g (set chosen v (Some k)) + length (riders_at g k)) ≡ g.penalty * (left_out g chosen + length (riders_at g j)) = ap (λ (n : ℕ). g.penalty * n) lefts in
+    let prices : g.penalty * (left_out g (set chosen v (Some k)) + length (riders_at g k)) ≡ g.penalty * (left_out g chosen + length (riders_at g j)) =
+    ap (λ (n : ℕ). g.penalty * n) lefts in
     omega arith
 
 -- a row without a rider whom the vehicle serves and who must be served makes no lawful plan
@@ -50,7 +98,8 @@ loss_betters_nothing g chosen v j k r lawful low chooses must serves lacks chang
     absurd (omega (arith, times, old, flag-false _ lacks, before, after, lawful.kept r must, changed.kept r must))
 
 -- a row that is read is small
-pub row_read : (g : Graph) (rows : List TripRow) (k : ℕ) (row : TripRow) → IsGoodGraph g → rows ≡ g.rows → k < length g.rows → row ≡ get_or rows k row → (row.cost ≤ 1000000000) × (length row.riders.items ≤ 6)
+pub row_read : (g : Graph) (rows : List TripRow) (k : ℕ) (row : TripRow) → IsGoodGraph g → rows ≡ g.rows → k < length g.rows → row ≡ get_or rows k row →
+    (row.cost ≤ 1000000000) × (length row.riders.items ≤ 6)
 row_read g rows k row good is low read =
     let here : row ≡ get_or g.rows k no_row = read ∙ ap (λ (rs : List TripRow). get_or rs k row) is ∙ sym (get_or_default g.rows k no_row row low) in
     (rw here (good.rows k low).cheap, rw here (good.rows k low).few)

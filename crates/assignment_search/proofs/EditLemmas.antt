@@ -2,20 +2,24 @@
 use Rattle.std.proofs.Common.{◌≡◌, ℕ, zero, suc, ◌+◌, ◌<◌, List, [], ◌∷◌, ◌++◌, length, get_or, take, drop, refl, ap, arith, rules}
 use Rattle.std.specs.List.{insert, remove}
 
-replace_suc : {X : Type 0} (xs : List X) (i : ℕ) (b p q : X) → i < length xs → insert (insert (insert (remove xs i) i b) (suc i) p) (suc (suc i)) q ≡ take i xs ++ (b ∷ p ∷ q ∷ drop (suc i) xs)
+replace_suc : {X : Type 0} (xs : List X) (i : ℕ) (b p q : X) → i < length xs → insert (insert (insert (remove xs i) i b) (suc i) p) (suc (suc i)) q ≡ take i xs
+    ++ (b ∷ p ∷ q ∷ drop (suc i) xs)
 replace_suc [] i b p q l = absurd (omega (arith, l))
 replace_suc (x ∷ xs) zero b p q l = refl
 replace_suc (x ∷ xs) (suc i) b p q l = ap (λ ys. x ∷ ys) (replace_suc xs i b p q (omega (arith, l)))
 
-pub edit_replace : {X : Type 0} (xs : List X) (i : ℕ) (b p q : X) → i < length xs → insert (insert (insert (remove xs i) i b) (i + 1) p) (i + 2) q ≡ take i xs ++ (b ∷ p ∷ q ∷ drop (suc i) xs)
+pub edit_replace : {X : Type 0} (xs : List X) (i : ℕ) (b p q : X) → i < length xs → insert (insert (insert (remove xs i) i b) (i + 1) p) (i + 2) q ≡ take i xs
+    ++ (b ∷ p ∷ q ∷ drop (suc i) xs)
 edit_replace xs i b p q l = search (rules, replace_suc)
 
-keep_suc : {X : Type 0} (xs : List X) (i : ℕ) (p q d : X) → i < length xs → insert (insert xs (suc i) p) (suc (suc i)) q ≡ take i xs ++ (get_or xs i d ∷ p ∷ q ∷ drop (suc i) xs)
+keep_suc : {X : Type 0} (xs : List X) (i : ℕ) (p q d : X) → i < length xs → insert (insert xs (suc i) p) (suc (suc i)) q ≡ take i xs ++
+    (get_or xs i d ∷ p ∷ q ∷ drop (suc i) xs)
 keep_suc [] i p q d l = absurd (omega (arith, l))
 keep_suc (x ∷ xs) zero p q d l = refl
 keep_suc (x ∷ xs) (suc i) p q d l = ap (λ ys. x ∷ ys) (keep_suc xs i p q d (omega (arith, l)))
 
-pub edit_keep : {X : Type 0} (xs : List X) (i : ℕ) (p q d : X) → i < length xs → insert (insert xs (i + 1) p) (i + 2) q ≡ take i xs ++ (get_or xs i d ∷ p ∷ q ∷ drop (suc i) xs)
+pub edit_keep : {X : Type 0} (xs : List X) (i : ℕ) (p q d : X) → i < length xs → insert (insert xs (i + 1) p) (i + 2) q ≡ take i xs ++
+    (get_or xs i d ∷ p ∷ q ∷ drop (suc i) xs)
 edit_keep xs i p q d l = search (rules, keep_suc)
 
 -- two more elements

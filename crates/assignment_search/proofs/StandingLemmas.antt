@@ -12,7 +12,8 @@ pub record IsNextOf (g : Graph) (first : List Usable) (nodes : List Node) (k : �
   pub sound : IsSoundNode g usable (get_or nodes k Dead)
   pub after : ReadsTo g first (take (suc k) nodes) (coming_after g usable (get_or nodes k Dead) later)
 
-pub next_of : (g : Graph) (nodes : List Node) (first rest coming : List Usable) (k : ℕ) → ReadsTo g first nodes rest → k < length nodes → ReadsTo g first (take k nodes) coming → IsNextOf g first nodes k coming
+pub next_of : (g : Graph) (nodes : List Node) (first rest coming : List Usable) (k : ℕ) → ReadsTo g first nodes rest → k < length nodes →
+    ReadsTo g first (take k nodes) coming → IsNextOf g first nodes k coming
 next_of g [] first rest coming k h l before = absurd (omega (arith, l))
 next_of g (n ∷ nodes) [] rest coming k h l before = absurd h
 next_of g (n ∷ nodes) (u ∷ us) rest coming zero h l before = record { usable = u; later = us; here = sym before; sound = h.0; after = (h.0, refl) }
@@ -30,6 +31,8 @@ none : (w : Usable) (ws : List Usable) → [] ≡ w ∷ ws → ⊥
 none w ws e = cc
 
 -- where a subtree is to come after an end, a walk that leaves the end stands there
-pub left_next : (g : Graph) (b : Bool) (old new : List Decision) (u : Usable) (us : List Usable) → MatchBool b ((standing_of g old).coming ≡ (standing_of g new).usable ∷ (standing_of g new).coming) ((standing_of g old).coming ≡ []) → (standing_of g old).coming ≡ u ∷ us → (standing_of g new).usable ∷ (standing_of g new).coming ≡ u ∷ us
+pub left_next : (g : Graph) (b : Bool) (old new : List Decision) (u : Usable) (us : List Usable) →
+    MatchBool b ((standing_of g old).coming ≡ (standing_of g new).usable ∷ (standing_of g new).coming) ((standing_of g old).coming ≡ []) →
+    (standing_of g old).coming ≡ u ∷ us → (standing_of g new).usable ∷ (standing_of g new).coming ≡ u ∷ us
 left_next g true old new u us h e = sym h ∙ e
 left_next g false old new u us h e = absurd (none u us (sym h ∙ e))

@@ -1,6 +1,56 @@
 -- The least costs of vehicles, row by row.
-use Rattle.std.proofs.Common.{◌≡◌, ◌==◌, ℕ, ◌+◌, ◌<◌, true, false, List, length, get_or, set, Option, Some, None, IfSome, ℤ, pos, negsuc, SFits, refl, sym, ap, ◌∙◌, subst, ⊎_elim, arith, ne_eqb, unwrap_or}
-use Rattle.bound_checker.proofs.Common.{w128, ints, int_min_is, cases_eq, and_left, cond-false, int_sum_below, least_below, lesser, Graph, row_vehicle, Usable, is_usable_by, reduced_cost, vehicle_term, IsSmall, IsSmallSum, int_sum_same, least_below_more, AreLeast}
+use Rattle.std.proofs.Common.{
+  ◌≡◌,
+  ◌==◌,
+  ℕ,
+  ◌+◌,
+  ◌<◌,
+  true,
+  false,
+  List,
+  length,
+  get_or,
+  set,
+  Option,
+  Some,
+  None,
+  IfSome,
+  ℤ,
+  pos,
+  negsuc,
+  SFits,
+  refl,
+  sym,
+  ap,
+  ◌∙◌,
+  subst,
+  ⊎_elim,
+  arith,
+  ne_eqb,
+  unwrap_or,
+}
+use Rattle.bound_checker.proofs.Common.{
+  w128,
+  ints,
+  int_min_is,
+  cases_eq,
+  and_left,
+  cond-false,
+  int_sum_below,
+  least_below,
+  lesser,
+  Graph,
+  row_vehicle,
+  Usable,
+  is_usable_by,
+  reduced_cost,
+  vehicle_term,
+  IsSmall,
+  IsSmallSum,
+  int_sum_same,
+  least_below_more,
+  AreLeast,
+}
 use Rattle.std.proofs.lemmas.List.{get_or-set_same, get_or-set_other, length-set}
 use Rattle.plan_rules.proofs.lemmas.ValueLemmas.{least_taken, least_passed}
 
@@ -30,7 +80,8 @@ module _ (g : Graph) (usable : Usable) (ms : List ℤ) (n : ℕ) (least : List (
   }
 
   -- one that may be used lowers what its vehicle has
-  pub row_taken : (cost : ℤ) → row_vehicle g n < g.vehicles → usable n ≡ true → cost ≡ reduced_cost g ms n → IsSmall (lesser (get_or least (row_vehicle g n) None) cost)
+  pub row_taken : (cost : ℤ) → row_vehicle g n < g.vehicles → usable n ≡ true → cost ≡ reduced_cost g ms n →
+      IsSmall (lesser (get_or least (row_vehicle g n) None) cost)
       → AreLeast g usable ms (n + 1) (set least (row_vehicle g n) (Some (lesser (get_or least (row_vehicle g n) None) cost)))
   row_taken cost within may is small =
       let own : ℕ = row_vehicle g n in
@@ -54,10 +105,12 @@ module _ (g : Graph) (usable : Usable) (ms : List ℤ) (n : ℕ) (least : List (
             (cases_eq v own);
       }
     where
-      another : (v : ℕ) → (row_vehicle g n ≡ v → ⊥) → least_below (n + 1) (is_usable_by g usable v) (reduced_cost g ms) ≡ least_below n (is_usable_by g usable v) (reduced_cost g ms)
+      another : (v : ℕ) → (row_vehicle g n ≡ v → ⊥) → least_below (n + 1) (is_usable_by g usable v) (reduced_cost g ms) ≡ least_below n
+          (is_usable_by g usable v) (reduced_cost g ms)
       another v differs =
           least_below_more n (is_usable_by g usable v) (reduced_cost g ms)
-          ∙ cond-false (is_usable_by g usable v n) (Some (lesser (least_below n (is_usable_by g usable v) (reduced_cost g ms)) (reduced_cost g ms n))) (least_below n (is_usable_by g usable v) (reduced_cost g ms))
+          ∙ cond-false (is_usable_by g usable v n) (Some (lesser (least_below n (is_usable_by g usable v) (reduced_cost g ms)) (reduced_cost g ms n)))
+          (least_below n (is_usable_by g usable v) (reduced_cost g ms))
           (and_left (row_vehicle g n == v) (usable n) (ne_eqb (row_vehicle g n) v differs))
 
 -- the sum over the table of all rows is that of the vehicles' parts
@@ -65,4 +118,5 @@ pub vehicles_sum : (g : Graph) (usable : Usable) (ms : List ℤ) (least : List (
     → int_sum_below (length least) (λ v. unwrap_or (get_or least v None) (pos 0)) ≡ int_sum_below g.vehicles (vehicle_term g usable ms)
 vehicles_sum g usable ms least are =
     ap (λ (n : ℕ). int_sum_below n (λ v. unwrap_or (get_or least v None) (pos 0))) are.sized
-    ∙ int_sum_same g.vehicles (λ v. unwrap_or (get_or least v None) (pos 0)) (vehicle_term g usable ms) (λ v l. ap (λ (o : Option ℤ). unwrap_or o (pos 0)) (are.each v l))
+    ∙ int_sum_same g.vehicles (λ v. unwrap_or (get_or least v None) (pos 0)) (vehicle_term g usable ms)
+    (λ v l. ap (λ (o : Option ℤ). unwrap_or o (pos 0)) (are.each v l))

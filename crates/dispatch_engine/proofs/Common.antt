@@ -8,7 +8,19 @@ pub use Rattle.std.specs.List.{AllByRecursion, AllZip, enumerate_from}
 pub use Rattle.request_book.specs.values.Batch.{Batch}
 pub use Rattle.dispatch_engine.specs.outcome.Outcome.{IsGoodOutcome}
 unfoldable pub use Rattle.dispatch_engine.specs.lanes.Lane.{ClosesAreGood}
-pub use Rattle.dispatch_engine.specs.lanes.Lane.{HasGained, HasRun, IsCloseOf, IsGoodClose, IsGoodFor, IsLaneBeginning, IsLaneRun, IsLaneRunFrom, LaneClosesAreGood, last_sealed, of_lane}
+pub use Rattle.dispatch_engine.specs.lanes.Lane.{
+  HasGained,
+  HasRun,
+  IsCloseOf,
+  IsGoodClose,
+  IsGoodFor,
+  IsLaneBeginning,
+  IsLaneRun,
+  IsLaneRunFrom,
+  LaneClosesAreGood,
+  last_sealed,
+  of_lane,
+}
 pub use Rattle.dispatch_engine.specs.lanes.Progress.{AreDone, HaveCome, IsNext, IsRest, at_start, progress_after, progress_at}
 pub use Rattle.dispatch_engine.specs.lanes.Run.{IsReady, IsRoundRun, IsRun, IsSameRun, journal_of, position_after_run, state_after_run}
 pub use Rattle.dispatch_engine.specs.declared.lanes.crew.LaneWork.{LaneWork}
@@ -38,7 +50,19 @@ pub use Rattle.dispatch_engine.specs.lanes.Locked.{call_of, entry_of, sealed_by,
 pub use Rattle.dispatch_engine.specs.lanes.Shared.{BookPass, HasCalled, HasCalledSome, IsFinished, IsSamePass, with_snapshot}
 pub use Rattle.dispatch_engine.specs.declared.lanes.locked.LockedReply.{LockedReply}
 pub use Rattle.std.proofs.lemmas.List.{drop_more, get_or_append_left, get_or_push, get_or_read, length_push, nil_from_length, take_more}
-pub use Rattle.std.proofs.lemmas.List.Elements.{All-contains, All-filter, All-from_get_or, All-map, All-push, Contains-append_left, Contains-append_right, Contains-get_or, Contains-push, Contains-push_cases, filter_passes}
+pub use Rattle.std.proofs.lemmas.List.Elements.{
+  All-contains,
+  All-filter,
+  All-from_get_or,
+  All-map,
+  All-push,
+  Contains-append_left,
+  Contains-append_right,
+  Contains-get_or,
+  Contains-push,
+  Contains-push_cases,
+  filter_passes,
+}
 pub use Rattle.std.specs.List.{list_any, range_with_len}
 pub use Rattle.dispatch_engine.specs.outcome.Instance.{posed_by}
 pub use Rattle.dispatch_engine.specs.outcome.Moves.{AreMoves, HasPlaces, idle_vehicles, is_idle, move_line, origins_of, starts_of}
@@ -61,7 +85,22 @@ pub use Rattle.stop_orders.proofs.lemmas.task.VisitLemmas.{visit_place}
 pub use Rattle.stop_orders.specs.task.Settled.{IsTrip, greatest, no_rider, rider_at, trip_task, vehicle_at, vehicle_task}
 pub use Rattle.stop_orders.specs.lemmas.task.Named.{no_vehicle}
 pub use Rattle.stop_orders.specs.task.Sound.{IsShort, IsSound, IsSoundVehicle}
-pub use Rattle.stop_orders.specs.task.Task.{IsLeastDelay, IsLeg, IsOrderOf, IsServable, IsTask, ReachesAll, Serves, leg_at, no_leg, order_delay, persons, seconds_of, visit_at, visits_of}
+pub use Rattle.stop_orders.specs.task.Task.{
+  IsLeastDelay,
+  IsLeg,
+  IsOrderOf,
+  IsServable,
+  IsTask,
+  ReachesAll,
+  Serves,
+  leg_at,
+  no_leg,
+  order_delay,
+  persons,
+  seconds_of,
+  visit_at,
+  visits_of,
+}
 pub use Rattle.stop_orders.specs.task.Visit.{place_of, seconds_from}
 pub use Rattle.stop_orders.specs.declared.task.settled.Settled.{Settled}
 pub use Rattle.stop_orders.specs.declared.task.settled_vehicle.SettledVehicle.{SettledVehicle}

@@ -21,11 +21,13 @@ unfolding entries_lines
 entries_lines-end proof position es i past = ap (λ xs. entries_lines proof position xs) (drop_all i es past)
 
 -- only a close has a block
-pub entry_block-other : (proof : Bool) (command : Command) (reply : Reply) → ((batch : ℕ) (outcome : Outcome) → command ≡ Close batch outcome → ⊥) → entry_block proof command reply ≡ []
+pub entry_block-other : (proof : Bool) (command : Command) (reply : Reply) → ((batch : ℕ) (outcome : Outcome) → command ≡ Close batch outcome → ⊥) →
+    entry_block proof command reply ≡ []
 entry_block-other proof (Close batch outcome) reply other = absurd (other batch outcome refl)
 entry_block-other proof _ reply other = refl
 
 -- only where it was answered `closed`
-pub closed_block-other : (proof : Bool) (batch : ℕ) (outcome : Outcome) (reply : Reply) → (reply ≡ Closed → ⊥) → entry_block proof (Close batch outcome) reply ≡ []
+pub closed_block-other : (proof : Bool) (batch : ℕ) (outcome : Outcome) (reply : Reply) → (reply ≡ Closed → ⊥) →
+    entry_block proof (Close batch outcome) reply ≡ []
 closed_block-other proof batch outcome Closed other = absurd (other refl)
 closed_block-other proof batch outcome _ other = refl

@@ -1,6 +1,53 @@
 -- Lines that are written one after the other, and what stands where one of them isn't written whole.
-use Rattle.std.proofs.Common.{◌≡◌, ℕ, ◌+◌, ◌<◌, ◌≤◌, Bool, true, false, cond, List, [], ◌∷◌, ◌++◌, length, take, Option, Result, Ok, Err, MatchResult, OnOk, arith, refl, sym, ◌∙◌, ap, subst, length-append, append-nil, append_assoc, add-one, map, get_or}
-use Rattle.dispatch_report.proofs.Common.{Appends, take-append-le, take-append-add, map-append, Rose, AppendsPart, Change, SinkView, WritesText, IsSame, WritesBytes, WritesLines}
+use Rattle.std.proofs.Common.{
+  ◌≡◌,
+  ℕ,
+  ◌+◌,
+  ◌<◌,
+  ◌≤◌,
+  Bool,
+  true,
+  false,
+  cond,
+  List,
+  [],
+  ◌∷◌,
+  ◌++◌,
+  length,
+  take,
+  Option,
+  Result,
+  Ok,
+  Err,
+  MatchResult,
+  OnOk,
+  arith,
+  refl,
+  sym,
+  ◌∙◌,
+  ap,
+  subst,
+  length-append,
+  append-nil,
+  append_assoc,
+  add-one,
+  map,
+  get_or,
+}
+use Rattle.dispatch_report.proofs.Common.{
+  Appends,
+  take-append-le,
+  take-append-add,
+  map-append,
+  Rose,
+  AppendsPart,
+  Change,
+  SinkView,
+  WritesText,
+  IsSame,
+  WritesBytes,
+  WritesLines,
+}
 use Rattle.dispatch_report.specs.work.Lines.{AppendsFirst}
 use Rattle.std.specs.List.{flat_map}
 use Rattle.std.proofs.KnownBytes.{Appends-nil, Appends-trans}
@@ -76,11 +123,13 @@ bytes_then a b c p q r xs ys (Err e) first next =
     }
 
 -- a piece that is written whole
-pub piece_written : (a b : SinkView) (p rest : List ℕ) → Appends a.written b.written p → rest ≡ [] → a.faults ≤ b.faults → WritesBytes (record { before = a; after = b }) p rest [] (Ok tt)
+pub piece_written : (a b : SinkView) (p rest : List ℕ) → Appends a.written b.written p → rest ≡ [] → a.faults ≤ b.faults →
+    WritesBytes (record { before = a; after = b }) p rest [] (Ok tt)
 piece_written a b p rest h is up = record { bytes = (p, h, ap (λ l. p ++ l) is); fault = λ none. cc none; never_falls = up }
 
 -- a piece that isn't
-pub piece_failed : (a b : SinkView) (p rest : List ℕ) (fault : WriteAll) (e : ReportFault) → e ≡ elim fault [ of_write.WriteFault ↦ WriteFault | of_write.OutOfMemory ↦ OutOfMemory ]
+pub piece_failed : (a b : SinkView) (p rest : List ℕ) (fault : WriteAll) (e : ReportFault) →
+    e ≡ elim fault [ of_write.WriteFault ↦ WriteFault | of_write.OutOfMemory ↦ OutOfMemory ]
     → AppendsPart a.written b.written p → (fault ≡ of_write.WriteFault → Rose a.faults b.faults) → a.faults ≤ b.faults
     → WritesBytes (record { before = a; after = b }) p rest [] (Err e)
 piece_failed a b p rest of_write.WriteFault e is part rose up =
@@ -91,7 +140,8 @@ piece_failed a b p rest of_write.OutOfMemory e is part rose up =
     record { bytes = subst P (sym (append-nil p)) part; fault = λ was. cc (was, is); never_falls = up }
 
 -- for want of memory nothing is written of a line
-pub nothing_written : (a : SinkView) (p rest xs : List ℕ) (e : ReportFault) → e ≡ OutOfMemory → WritesBytes (record { before = a; after = a }) p rest (xs ++ 10 ∷ []) (Err e)
+pub nothing_written : (a : SinkView) (p rest xs : List ℕ) (e : ReportFault) → e ≡ OutOfMemory →
+    WritesBytes (record { before = a; after = a }) p rest (xs ++ 10 ∷ []) (Err e)
 nothing_written a p rest xs e is = record {
   bytes = (0, omega (arith, length-append p (xs ++ 10 ∷ []), length-append xs (10 ∷ [])), Appends-nil a.written);
   fault = λ was. cc (was, is);
@@ -107,35 +157,52 @@ pub added_waits : (a : SinkView) (p q added : List ℕ) → q ≡ p ++ added →
 added_waits a p q added is = record { bytes = ([], Appends-nil a.written, is); fault = λ none. cc none; never_falls = omega arith }
 
 -- or goes out with it
-pub added_goes : {s : Change SinkView} {rest : List ℕ} {e : Result (Unit {0}) ReportFault} (p q added : List ℕ) → q ≡ p ++ added → WritesBytes s q rest [] e → WritesBytes s p rest added e
+pub added_goes : {s : Change SinkView} {rest : List ℕ} {e : Result (Unit {0}) ReportFault} (p q added : List ℕ) → q ≡ p ++ added → WritesBytes s q rest [] e →
+    WritesBytes s p rest added e
 added_goes {s} {rest} {e} p q added is w =
-    let P : List ℕ → Type 0 = λ bytes. MatchResult e (λ _. AppendsFirst s.before.written s.after.written bytes rest) (λ _. AppendsPart s.before.written s.after.written bytes) in
+    let P : List ℕ → Type 0 = λ bytes. MatchResult e (λ _. AppendsFirst s.before.written s.after.written bytes rest)
+    (λ _. AppendsPart s.before.written s.after.written bytes) in
     record { bytes = subst P (append-nil q ∙ is) w.bytes; fault = w.fault; never_falls = w.never_falls }
 
 -- no line
 pub no_lines : (a : SinkView) {p : List ℕ} (r : Result (Unit {0}) ReportFault) → WritesLines (record { before = a; after = a }) p p r r []
 no_lines a {p} (Ok u) =
-    let none : WritesBytes (record { before = a; after = a }) p p [] (Ok tt) = record { bytes = ([], Appends-nil a.written, sym (append-nil p)); fault = λ is. cc is; never_falls = omega arith } in
+    let none : WritesBytes (record { before = a; after = a }) p p [] (Ok tt) = record {
+      bytes = ([], Appends-nil a.written, sym (append-nil p));
+      fault =
+          λ is. cc is;
+      never_falls = omega arith;
+    } in
     record { text = subst (λ l. WritesBytes (record { before = a; after = a }) p p l (Ok tt)) (sym lines_text-none) none }
 no_lines a {p} (Err e) = record { text = (record { seen = refl; waiting = refl }, refl) }
 
 -- one line, where nothing failed before
-pub line_is : {s : Change SinkView} {p q : List ℕ} {r e : Result (Unit {0}) ReportFault} {u : Unit {0}} (x : List ℕ) → r ≡ Ok u → WritesBytes s p q (x ++ 10 ∷ []) e → WritesLines s p q r e (x ∷ [])
+pub line_is : {s : Change SinkView} {p q : List ℕ} {r e : Result (Unit {0}) ReportFault} {u : Unit {0}} (x : List ℕ) → r ≡ Ok u →
+    WritesBytes s p q (x ++ 10 ∷ []) e → WritesLines s p q r e (x ∷ [])
 line_is {s} {p} {q} {r} {e} x ok w =
     subst (λ b. WritesLines s p q b e (x ∷ [])) (sym ok) (record { text = subst (λ l. WritesBytes s p q l e) (sym (lines_text-one x)) w })
 
 -- lines, and then others
-then_of : (a b c : SinkView) (p q t : List ℕ) (x y z : Result (Unit {0}) ReportFault) (xs ys : List (List ℕ)) → WritesLines (record { before = a; after = b }) p q x y xs
+then_of : (a b c : SinkView) (p q t : List ℕ) (x y z : Result (Unit {0}) ReportFault) (xs ys : List (List ℕ)) →
+    WritesLines (record { before = a; after = b }) p q x y xs
     → WritesLines (record { before = b; after = c }) q t y z ys → WritesLines (record { before = a; after = c }) p t x z (xs ++ ys)
 then_of a b c p q t (Ok u) (Ok v) z xs ys first next =
-    record { text = subst (λ l. WritesBytes (record { before = a; after = c }) p t l z) (sym (lines_text-append xs ys)) (bytes_then a b c p q t (lines_text xs) (lines_text ys) z first.text next.text) }
+    record {
+      text = subst (λ l. WritesBytes (record { before = a; after = c }) p t l z) (sym (lines_text-append xs ys))
+          (bytes_then a b c p q t (lines_text xs) (lines_text ys) z first.text next.text);
+    }
 then_of a b c p q t (Ok u) (Err e) z xs ys first next =
     let w = first.text in
     let P : List ℕ → Type 0 = λ bytes. AppendsPart a.written b.written bytes in
     let whole : (p ++ lines_text xs) ++ lines_text ys ≡ p ++ lines_text (xs ++ ys) =
     append_assoc p (lines_text xs) (lines_text ys) ∙ ap (λ l. p ++ l) (sym (lines_text-append xs ys)) in
     let failed : WritesBytes (record { before = a; after = b }) p t (lines_text (xs ++ ys)) (Err e) =
-    record { bytes = subst P whole (part_before a.written b.written (p ++ lines_text xs) (lines_text ys) w.bytes); fault = w.fault; never_falls = w.never_falls } in
+    record {
+      bytes = subst P whole (part_before a.written b.written (p ++ lines_text xs) (lines_text ys) w.bytes);
+      fault = w.fault;
+      never_falls =
+          w.never_falls;
+    } in
     let there : WritesBytes (record { before = a; after = c }) p t (lines_text (xs ++ ys)) (Err e) =
     subst (λ s. WritesBytes (record { before = a; after = s }) p t (lines_text (xs ++ ys)) (Err e)) (sym next.text.0.seen) failed in
     record { text = subst (λ r. WritesBytes (record { before = a; after = c }) p t (lines_text (xs ++ ys)) r) (sym next.text.1) there }
@@ -143,23 +210,32 @@ then_of a b c p q t (Err e) (Ok v) z xs ys first next = let is : Ok tt ≡ Err e
 then_of a b c p q t (Err e) (Err f) z xs ys first next =
     record { text = (record { seen = next.text.0.seen ∙ first.text.0.seen; waiting = next.text.0.waiting ∙ first.text.0.waiting }, next.text.1 ∙ first.text.1) }
 
-pub then : {a b c : SinkView} {p q t : List ℕ} {x y z : Result (Unit {0}) ReportFault} {xs ys : List (List ℕ)} → WritesLines (record { before = a; after = b }) p q x y xs
+pub then : {a b c : SinkView} {p q t : List ℕ} {x y z : Result (Unit {0}) ReportFault} {xs ys : List (List ℕ)} →
+    WritesLines (record { before = a; after = b }) p q x y xs
     → WritesLines (record { before = b; after = c }) q t y z ys → WritesLines (record { before = a; after = c }) p t x z (xs ++ ys)
 then {a} {b} {c} {p} {q} {t} {x} {y} {z} {xs} {ys} first next = then_of a b c p q t x y z xs ys first next
 
 -- lines whose last piece is written, as a text, where no byte waited
-as_text_of : (a b c : SinkView) (p q : List ℕ) (lines : List (List ℕ)) (r e : Result (Unit {0}) ReportFault) → p ≡ [] → WritesBytes (record { before = a; after = b }) p q (lines_text lines) r
-    → MatchResult r (λ _. (rest : List ℕ) × WritesBytes (record { before = b; after = c }) q rest [] e × OnOk e (rest ≡ [])) (λ fault. IsSame (record { before = b; after = c }) q q × (e ≡ Err fault))
+as_text_of : (a b c : SinkView) (p q : List ℕ) (lines : List (List ℕ)) (r e : Result (Unit {0}) ReportFault) → p ≡ [] →
+    WritesBytes (record { before = a; after = b }) p q (lines_text lines) r
+    → MatchResult r (λ _. (rest : List ℕ) × WritesBytes (record { before = b; after = c }) q rest [] e × OnOk e (rest ≡ []))
+    (λ fault. IsSame (record { before = b; after = c }) q q × (e ≡ Err fault))
     → WritesText (record { before = a; after = c }) (lines_text lines) e
 as_text_of a b c p q lines (Ok u) (Ok v) none first last =
     let w = bytes_then a b c p q last.0 (lines_text lines) [] (Ok v) first last.1 in
     let out : w.bytes.0 ≡ lines_text lines =
-    sym (append-nil w.bytes.0) ∙ ap (λ l. w.bytes.0 ++ l) (sym last.2) ∙ w.bytes.2 ∙ ap (λ l. l ++ (lines_text lines ++ [])) none ∙ append-nil (lines_text lines) in
+    sym (append-nil w.bytes.0) ∙ ap (λ l. w.bytes.0 ++ l) (sym last.2) ∙ w.bytes.2 ∙ ap (λ l. l ++ (lines_text lines ++ [])) none ∙
+    append-nil (lines_text lines) in
     record { bytes = subst (λ t. Appends a.written c.written t) out w.bytes.1; fault = w.fault; never_falls = w.never_falls }
 as_text_of a b c p q lines (Ok u) (Err e) none first last =
     let w = bytes_then a b c p q last.0 (lines_text lines) [] (Err e) first last.1 in
     let P : List ℕ → Type 0 = λ bytes. AppendsPart a.written c.written bytes in
-    record { bytes = subst P (ap (λ l. l ++ (lines_text lines ++ [])) none ∙ append-nil (lines_text lines)) w.bytes; fault = w.fault; never_falls = w.never_falls }
+    record {
+      bytes = subst P (ap (λ l. l ++ (lines_text lines ++ [])) none ∙ append-nil (lines_text lines)) w.bytes;
+      fault = w.fault;
+      never_falls =
+          w.never_falls;
+    }
 as_text_of a b c p q lines (Err f) e none first last =
     let P : List ℕ → Type 0 = λ bytes. AppendsPart a.written b.written bytes in
     let failed : WritesText (record { before = a; after = b }) (lines_text lines) (Err f) =
@@ -168,13 +244,16 @@ as_text_of a b c p q lines (Err f) e none first last =
     subst (λ s. WritesText (record { before = a; after = s }) (lines_text lines) (Err f)) (sym last.0.seen) failed in
     subst (λ r. WritesText (record { before = a; after = c }) (lines_text lines) r) (sym last.1) there
 
-pub as_text : {a b c : SinkView} {p q : List ℕ} {lines : List (List ℕ)} {r e : Result (Unit {0}) ReportFault} → p ≡ [] → WritesLines (record { before = a; after = b }) p q (Ok tt) r lines
-    → MatchResult r (λ _. (rest : List ℕ) × WritesBytes (record { before = b; after = c }) q rest [] e × OnOk e (rest ≡ [])) (λ fault. IsSame (record { before = b; after = c }) q q × (e ≡ Err fault))
+pub as_text : {a b c : SinkView} {p q : List ℕ} {lines : List (List ℕ)} {r e : Result (Unit {0}) ReportFault} → p ≡ [] →
+    WritesLines (record { before = a; after = b }) p q (Ok tt) r lines
+    → MatchResult r (λ _. (rest : List ℕ) × WritesBytes (record { before = b; after = c }) q rest [] e × OnOk e (rest ≡ []))
+    (λ fault. IsSame (record { before = b; after = c }) q q × (e ≡ Err fault))
     → WritesText (record { before = a; after = c }) (lines_text lines) e
 as_text {a} {b} {c} {p} {q} {lines} {r} {e} none first last = as_text_of a b c p q lines r e none first.text last
 
 -- the same lines
-pub same_lines : {s : Change SinkView} {p q : List ℕ} {r e : Result (Unit {0}) ReportFault} (xs ys : List (List ℕ)) → xs ≡ ys → WritesLines s p q r e xs → WritesLines s p q r e ys
+pub same_lines : {s : Change SinkView} {p q : List ℕ} {r e : Result (Unit {0}) ReportFault} (xs ys : List (List ℕ)) → xs ≡ ys → WritesLines s p q r e xs →
+    WritesLines s p q r e ys
 same_lines {s} {p} {q} {r} {e} xs ys is w = subst (λ ls. WritesLines s p q r e ls) is w
 
 -- lines of a block that were written
@@ -194,16 +273,22 @@ module _ {s : Change SinkView} {p q : List ℕ} {r e : Result (Unit {0}) ReportF
       fused (y ∷ ys) = ap (λ l. block_line_text (K y) ∷ l) (fused ys)
 
   -- the same where they are asked for
-  pub asked : {X : Type 0} (K : X → BlockLine) (xs : List X) (proof : Bool) → WritesLines s p q r e (cond proof (map (λ x. block_line_text (K x)) xs) []) → WritesBlock s p q r e (cond proof (map K xs) [])
+  pub asked : {X : Type 0} (K : X → BlockLine) (xs : List X) (proof : Bool) → WritesLines s p q r e (cond proof (map (λ x. block_line_text (K x)) xs) []) →
+      WritesBlock s p q r e (cond proof (map K xs) [])
   asked K xs true w = kind K xs w
   asked K xs false w = block [] w
 
-pub then_block : {a b c : SinkView} {p q t : List ℕ} {x y z : Result (Unit {0}) ReportFault} {xs ys : List BlockLine} → WritesBlock (record { before = a; after = b }) p q x y xs
+pub then_block : {a b c : SinkView} {p q t : List ℕ} {x y z : Result (Unit {0}) ReportFault} {xs ys : List BlockLine} →
+    WritesBlock (record { before = a; after = b }) p q x y xs
     → WritesBlock (record { before = b; after = c }) q t y z ys → WritesBlock (record { before = a; after = c }) p t x z (xs ++ ys)
-then_block {a} {b} {c} {p} {q} {t} {x} {y} {z} {xs} {ys} first next = record { texts = same_lines _ _ (sym (map-append block_line_text xs ys)) (then first.texts next.texts) }
+then_block {a} {b} {c} {p} {q} {t} {x} {y} {z} {xs} {ys} first next = record {
+  texts = same_lines _ _ (sym (map-append block_line_text xs ys))
+      (then first.texts next.texts);
+}
 
 -- the lines of a list up to an item, and those of the item
-pub flat_map-next : {X Y : Type 0} (f : X → List Y) (xs : List X) (i : ℕ) (x : X) → i < length xs → x ≡ get_or xs i x → flat_map f (take i xs) ++ f x ≡ flat_map f (take (i + 1) xs)
+pub flat_map-next : {X Y : Type 0} (f : X → List Y) (xs : List X) (i : ℕ) (x : X) → i < length xs → x ≡ get_or xs i x →
+    flat_map f (take i xs) ++ f x ≡ flat_map f (take (i + 1) xs)
 flat_map-next f xs i x within is =
     ap (λ y. flat_map f (take i xs) ++ f y) is
     ∙ ap (λ ys. flat_map f (take i xs) ++ ys) (sym (append-nil (f (get_or xs i x))))
@@ -211,11 +296,13 @@ flat_map-next f xs i x within is =
     ∙ ap (λ ys. flat_map f ys) (sym (rw add-one (take-suc xs i x within)))
 
 -- what was put of a list up to an item, and that item
-pub put-next : {X : Type 0} (f : X → List ℕ) (xs : List X) (i : ℕ) (x : X) (old mid new : List ℕ) → i < length xs → x ≡ get_or xs i x → mid ≡ old ++ flat_map f (take i xs) → new ≡ mid ++ f x → new ≡ old ++ flat_map f (take (i + 1) xs)
+pub put-next : {X : Type 0} (f : X → List ℕ) (xs : List X) (i : ℕ) (x : X) (old mid new : List ℕ) → i < length xs → x ≡ get_or xs i x →
+    mid ≡ old ++ flat_map f (take i xs) → new ≡ mid ++ f x → new ≡ old ++ flat_map f (take (i + 1) xs)
 put-next f xs i x old mid new within is before next =
     next ∙ ap (λ l. l ++ f x) before ∙ append_assoc old (flat_map f (take i xs)) (f x) ∙ ap (λ l. old ++ l) (flat_map-next f xs i x within is)
 
-pub map-next : {X : Type 0} (f : X → List ℕ) (xs : List X) (i : ℕ) (x : X) → i < length xs → x ≡ get_or xs i x → map f (take i xs) ++ f x ∷ [] ≡ map f (take (i + 1) xs)
+pub map-next : {X : Type 0} (f : X → List ℕ) (xs : List X) (i : ℕ) (x : X) → i < length xs → x ≡ get_or xs i x →
+    map f (take i xs) ++ f x ∷ [] ≡ map f (take (i + 1) xs)
 map-next f xs i x within is =
     ap (λ y. map f (take i xs) ++ f y ∷ []) is
     ∙ sym (map-append f (take i xs) (get_or xs i x ∷ []))

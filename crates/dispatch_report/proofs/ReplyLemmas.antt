@@ -32,7 +32,8 @@ unfolding numbered
 sealed_parts batch = refl
 
 -- the line of an entry, by its place, its command and its reply
-pub entry_put : (position lane told : ℕ) (command reply line a b new : List ℕ) → told ≡ lane → a ≡ line ++ (numbered [] position ++ (spaced told ++ [])) → b ≡ a ++ (codes " " ++ command) → new ≡ b ++ (codes " " ++ reply)
+pub entry_put : (position lane told : ℕ) (command reply line a b new : List ℕ) → told ≡ lane → a ≡ line ++ (numbered [] position ++ (spaced told ++ [])) →
+    b ≡ a ++ (codes " " ++ command) → new ≡ b ++ (codes " " ++ reply)
     → new ≡ line ++ (decimal position ++ spaced lane ++ codes " " ++ command ++ codes " " ++ reply)
 unfolding numbered
 entry_put position lane told command reply line a b new same is more last = search (rules, append_assoc)

@@ -7,7 +7,8 @@ abbrev pub entry_summary : Entry → List (List ℕ)
 entry_summary e = batch_lines e.command e.reply
 
 -- only a close adds a line
-pub batch_lines-other : (command : Command) (reply : Reply) → ((batch : ℕ) (outcome : Outcome) → command ≡ Close batch outcome → ⊥) → batch_lines command reply ≡ []
+pub batch_lines-other : (command : Command) (reply : Reply) → ((batch : ℕ) (outcome : Outcome) → command ≡ Close batch outcome → ⊥) →
+    batch_lines command reply ≡ []
 batch_lines-other (Close batch outcome) reply other = absurd (other batch outcome refl)
 batch_lines-other _ reply other = refl
 

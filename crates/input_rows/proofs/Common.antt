@@ -1,7 +1,24 @@
 -- The names that the proofs of this crate cite from elsewhere, passed on from one place. Declares nothing.
 pub use Rattle.std.proofs.lemmas.Bool.{and_left, and_parts, cases_eq, cases_lt, cases_order, cond-false, cond-true, false≢true, not-false, or_from}
 pub use Rattle.std.proofs.lemmas.List.{drop-map, get_or-map, get_or_at, get_or_default, length-map, length_push, map-append, set_at, take-map, take_more}
-pub use Rattle.std.proofs.lemmas.List.Elements.{All-append, All-cons, All-drop, All-head, All-nil, All-push, All-same, All-tail, All-take, All-weaker, Contains-append_cases, Contains-append_left, Contains-append_right, Contains-push, Contains-push_cases, filter-append}
+pub use Rattle.std.proofs.lemmas.List.Elements.{
+  All-append,
+  All-cons,
+  All-drop,
+  All-head,
+  All-nil,
+  All-push,
+  All-same,
+  All-tail,
+  All-take,
+  All-weaker,
+  Contains-append_cases,
+  Contains-append_left,
+  Contains-append_right,
+  Contains-push,
+  Contains-push_cases,
+  filter-append,
+}
 pub use Rattle.std.proofs.lemmas.Result.{err_from_is_err_and, on_ok_weaker}
 pub use Rattle.std.specs.List.{AllWithin, list_all, list_any, position_from, prefix_len, range_with_len}
 pub use Rattle.pool_base.proofs.lemmas.InOrderLemmas.{all_or_first-all, all_or_first-err, all_or_first-ok, first_fault-all, refused_where-passed, then_ok}
@@ -40,7 +57,17 @@ pub use Rattle.csv.specs.Reading.{default_config, records}
 unfoldable pub use Rattle.input_rows.specs.made.Part.{draw}
 pub use Rattle.input_rows.specs.made.Part.{Part, both, each, plain}
 pub use Rattle.input_rows.specs.made.MadeRow.{csv_line, field_text}
-unfoldable pub use Rattle.input_rows.specs.lemmas.made.Parts.{all_reports, arcs_down, arcs_of_row, arcs_right, fleet_part, network_part, reports, script_part, submits}
+unfoldable pub use Rattle.input_rows.specs.lemmas.made.Parts.{
+  all_reports,
+  arcs_down,
+  arcs_of_row,
+  arcs_right,
+  fleet_part,
+  network_part,
+  reports,
+  script_part,
+  submits,
+}
 pub use Rattle.input_rows.specs.lemmas.made.Parts.{csv_lines, draws_of, nothing, other_than, seal_row, text_under}
 unfoldable pub use Rattle.input_rows.specs.made.Texts.{arcs_between, batch_rows, drawn_node, report_row, submit_row, texts_of, vehicle_row}
 pub use Rattle.input_rows.specs.made.Texts.{Texts, node_id}

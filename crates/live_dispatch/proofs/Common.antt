@@ -21,7 +21,18 @@ pub use Rattle.pool_io.specs.Views.{Change, SinkView}
 pub use Rattle.dispatch_report.specs.Written.{WritesText}
 pub use Rattle.dispatch_report.specs.declared.fault.ReportFault.{ReportFault}
 pub use Rattle.live_dispatch.proofs.lemmas.TakenLemmas.{all-begin, runs-begin, runs-more, takes-all, takes-begin, takes-more, takes-none, takes-start}
-pub use Rattle.live_dispatch.specs.Phase.{AreRows, BeginWithRows, ClosesBatch, FaultsFrom, GoesOn, TakesRun, commands_of_pass, desk_after, entry_command, row_command}
+pub use Rattle.live_dispatch.specs.Phase.{
+  AreRows,
+  BeginWithRows,
+  ClosesBatch,
+  FaultsFrom,
+  GoesOn,
+  TakesRun,
+  commands_of_pass,
+  desk_after,
+  entry_command,
+  row_command,
+}
 pub use Rattle.live_dispatch.specs.declared.read_on.Halt.{Halt}
 pub use Rattle.live_dispatch.proofs.lemmas.EntryLemmas.{entries-append, lines-append, next-append, next-low, notices-append, one-text, state-append}
 pub use Rattle.live_dispatch.specs.Desk.{IsPassedOn, OutputsView, desk_of, desk_root, entries_text, notices_in, outputs_seen, pass_of, text_of}
@@ -29,7 +40,27 @@ pub use Rattle.live_dispatch.specs.declared.desk.LaneCommand.{LaneCommand}
 pub use Rattle.live_dispatch.specs.Live.{AreWhole, BeginsRows, ButLast, EndsWithin, HasAppended, IsBegunRun, IsRoundBeginning, journals_notices, journals_text, rows_text}
 pub use Rattle.live_dispatch.specs.declared.fault.LiveFault.{LiveFault}
 pub use Rattle.live_dispatch.specs.work.Rows.{EndsIn, EndsWith, in_lane, last_of, round_numbers, start_text}
-pub use Rattle.live_dispatch.specs.work.Standing.{AppendsSome, Awaits, GivesNext, HasCut, HasEnded, HasRunOn, HasTaken, HaveCome, Moment, Opens, Stands, WritesSome, ended_by, entry_for, moment, of_line, of_report, outputs_of, row_text}
+pub use Rattle.live_dispatch.specs.work.Standing.{
+  AppendsSome,
+  Awaits,
+  GivesNext,
+  HasCut,
+  HasEnded,
+  HasRunOn,
+  HasTaken,
+  HaveCome,
+  Moment,
+  Opens,
+  Stands,
+  WritesSome,
+  ended_by,
+  entry_for,
+  moment,
+  of_line,
+  of_report,
+  outputs_of,
+  row_text,
+}
 pub use Rattle.input_rows.specs.live.Rows.{ComesBehind, TakesRows}
 pub use Rattle.pool_io.specs.Faults.{Rose}
 pub use Rattle.pool_io.specs.Sink.{AppendsPart}

@@ -27,21 +27,26 @@ module _ (nodes : List ℕ) (wait : ℕ) where
   commands-cut pass n s (e ∷ es) = grind (arith, nat_tests, commands-cut pass (n + 1) (step nodes wait s e.command).0 es)
 
 -- the commands of a pass, where the journal was empty before
-pass-commands : (d : DeskView) (before : List _) (passes : List (PassValue DeskView LaneCommand LockedReply)) (k : ℕ) (p : PassValue DeskView LaneCommand LockedReply)
+pass-commands : (d : DeskView) (before : List _) (passes : List (PassValue DeskView LaneCommand LockedReply)) (k : ℕ)
+    (p : PassValue DeskView LaneCommand LockedReply)
     → (gains : GainsCalls before (desk_log d) passes) → before ≡ [] → p.calls ≡ calls_of k gains.since → commands_in p ≡ commands_of_pass k d.book.entries
 pass-commands d before passes k p gains none is =
     let log : gains.since ≡ desk_log d = sym (gains.gained ∙ ap (λ l. l ++ gains.since) none) in
     ap (λ cs. map (λ c. c.1.call) cs) (is ∙ ap (calls_of k) log) ∙ commands-cut d.book.nodes d.book.wait k 0 d.book.base d.book.entries
 
 -- what came of an open batch, from what its two passes called
-pub open-run : (settings : Settings) (roads : Roads) (b : Batch) (round : ℕ) (old new : Option (List ScriptRow)) (got after held start : DeskView) (closed : Bool) (end : Halt)
+pub open-run : (settings : Settings) (roads : Roads) (b : Batch) (round : ℕ) (old new : Option (List ScriptRow)) (got after held start : DeskView)
+    (closed : Bool) (end : Halt)
     (first second : PassValue DeskView LaneCommand LockedReply)
-    → got ≡ after → held ≡ start → after.opened ≡ start.now → IsDesk got → desk_root got ≡ desk_root held → GainsCalls (desk_log held) (desk_log got) (first ∷ second ∷ [])
+    → got ≡ after → held ≡ start → after.opened ≡ start.now → IsDesk got → desk_root got ≡ desk_root held →
+    GainsCalls (desk_log held) (desk_log got) (first ∷ second ∷ [])
     → desk_log start ≡ [] → ClosesBatch settings roads b closed (commands_in first) → RanRows round (commands_in second) (TakesRun end old new)
     → HasRunOpen settings roads b round old new start after closed end
 open-run settings roads b round old new got after held start closed end first second is was opened kept root gains none close rows =
-    let commands : (k : ℕ) (p : PassValue DeskView LaneCommand LockedReply) → p.calls ≡ calls_of k gains.since → commands_in p ≡ commands_of_pass k after.book.entries =
-    λ k p calls. pass-commands got (desk_log held) (first ∷ second ∷ []) k p gains (ap desk_log was ∙ none) calls ∙ ap (λ (d : DeskView). commands_of_pass k d.book.entries) is in
+    let commands : (k : ℕ) (p : PassValue DeskView LaneCommand LockedReply) → p.calls ≡ calls_of k gains.since →
+    commands_in p ≡ commands_of_pass k after.book.entries =
+    λ k p calls. pass-commands got (desk_log held) (first ∷ second ∷ []) k p gains (ap desk_log was ∙ none) calls ∙
+    ap (λ (d : DeskView). commands_of_pass k d.book.entries) is in
     record {
       desk = subst IsDesk is kept;
       root = sym (ap desk_root is) ∙ root ∙ ap desk_root was;

@@ -1,5 +1,33 @@
 -- One more entry, and what is written with it.
-use Rattle.std.proofs.Common.{◌≡◌, ℕ, ◌<◌, ◌≤◌, ◌^◌, ◌-◌, Bool, List, [], ◌∷◌, ◌++◌, length, get_or, map, take, Option, None, Some, Result, Ok, Err, arith, refl, sym, ap, subst, ◌∙◌}
+use Rattle.std.proofs.Common.{
+  ◌≡◌,
+  ℕ,
+  ◌<◌,
+  ◌≤◌,
+  ◌^◌,
+  ◌-◌,
+  Bool,
+  List,
+  [],
+  ◌∷◌,
+  ◌++◌,
+  length,
+  get_or,
+  map,
+  take,
+  Option,
+  None,
+  Some,
+  Result,
+  Ok,
+  Err,
+  arith,
+  refl,
+  sym,
+  ap,
+  subst,
+  ◌∙◌,
+}
 use Rattle.std.proofs.KnownBytes.{Appends-nil, Appends-trans}
 use Rattle.std.specs.Io.KnownBytes.{Appends}
 use Rattle.std.proofs.lemmas.Bool.{false≢true}
@@ -42,8 +70,10 @@ pub untold : (notices : List Notice) (reply : Reply) (ns : List NotifierView) �
 untold notices reply ns is = subst (λ b. HaveHeard (cond b notices []) ns ns) (sym is) (all-heard-nothing ns)
 
 -- the text of a journal with one more entry
-pub entries_text-push : (proof : Bool) (old new : BookView) (lane : ℕ) (command : Command) (reply : Reply) → old.first < 2 ^ 64 → IsApplied old lane command reply new
-    → entries_text proof new ≡ entries_text proof old ++ entry_text proof (next_position old.first old.entries) (record { lane = lane; command = command; reply = reply })
+pub entries_text-push : (proof : Bool) (old new : BookView) (lane : ℕ) (command : Command) (reply : Reply) → old.first < 2 ^ 64 →
+    IsApplied old lane command reply new
+    → entries_text proof new ≡ entries_text proof old ++ entry_text proof (next_position old.first old.entries)
+    (record { lane = lane; command = command; reply = reply })
 entries_text-push proof old new lane command reply small applied =
     let e : Entry = record { lane = lane; command = command; reply = reply } in
     (λ i. lines_text (entries_lines proof (applied.first i) (applied.entries i)))
@@ -55,8 +85,15 @@ pub desk-opened : (book : BookView) (proof : Bool) (outputs : OutputsView) → I
     → IsDesk (record { book = book; proof = proof; opened = outputs; now = outputs; fault = None })
 unfolding entries_lines lines_text notices_from
 desk-opened book proof outputs kept empty small =
-    let P : List Entry → Type 0 = λ es. Appends outputs.sink.written outputs.sink.written (text_of proof book es) × HaveHeard (notices_in book es) outputs.notifiers outputs.notifiers in
-    record { book = kept; first = small; told = subst P (sym empty) (Appends-nil outputs.sink.written, all-heard-nothing outputs.notifiers); never_falls = omega arith }
+    let P : List Entry → Type 0 = λ es. Appends outputs.sink.written outputs.sink.written (text_of proof book es) × HaveHeard (notices_in book es)
+    outputs.notifiers outputs.notifiers in
+    record {
+      book = kept;
+      first = small;
+      told = subst P (sym empty) (Appends-nil outputs.sink.written, all-heard-nothing outputs.notifiers);
+      never_falls =
+          omega arith;
+    }
 
 module _ (old : DeskView) (lane : ℕ) (command : Command) (reply : Reply) (book : BookView) (now : OutputsView)
     (desk : IsDesk old) (whole : old.fault ≡ None) (kept : IsBook book) (applied : IsApplied old.book lane command reply book) where
@@ -83,16 +120,20 @@ module _ (old : DeskView) (lane : ℕ) (command : Command) (reply : Reply) (book
   desk-told wrote falls notices is told =
       let mine : List Notice = entry_notices old.book.state command reply in
       let heard : HaveHeard mine old.now.notifiers now.notifiers =
-      subst (λ ns. HaveHeard ns old.now.notifiers now.notifiers) (ap (λ ns. cond (is_closed reply) ns []) is ∙ close-notices old.book.state command reply) told in
+      subst (λ ns. HaveHeard ns old.now.notifiers now.notifiers) (ap (λ ns. cond (is_closed reply) ns []) is ∙ close-notices old.book.state command reply)
+      told in
       let all : notices_in old.book old.book.entries ++ mine ≡ notices_in book book.entries =
       ap (λ s. notices_in old.book old.book.entries ++ entry_notices s command reply) desk.book.state
-      ∙ sym (notices-append old.book.nodes old.book.wait old.book.base old.book.entries (e ∷ []) ∙ ap (λ ns. notices_in old.book old.book.entries ++ ns) (one-notices old.book.nodes old.book.wait (state_after old.book.nodes old.book.wait old.book.base old.book.entries) e))
+      ∙ sym (notices-append old.book.nodes old.book.wait old.book.base old.book.entries (e ∷ []) ∙
+      ap (λ ns. notices_in old.book old.book.entries ++ ns) (one-notices old.book.nodes old.book.wait
+      (state_after old.book.nodes old.book.wait old.book.base old.book.entries) e))
       ∙ (λ i. notices_from (sym applied.nodes i) (sym applied.wait i) (sym applied.base i) (sym applied.entries i)) in
       record {
         book = kept;
         first = small;
         told = (
-          subst (λ t. Appends old.opened.sink.written now.sink.written t) (sym (entries_text-push old.proof old.book book lane command reply desk.first applied))
+          subst (λ t. Appends old.opened.sink.written now.sink.written t)
+              (sym (entries_text-push old.proof old.book book lane command reply desk.first applied))
               (Appends-trans old.opened.sink.written old.now.sink.written now.sink.written (entries_text old.proof old.book) more before.0 wrote),
           subst (λ ns. HaveHeard ns old.opened.notifiers now.notifiers) all
               (all-heard-more (notices_in old.book old.book.entries) mine old.opened.notifiers old.now.notifiers now.notifiers before.1 heard),
@@ -116,7 +157,8 @@ module _ (old : DeskView) (lane : ℕ) (command : Command) (reply : Reply) (book
           part = part.0;
           short = subst (λ n. part.0 < length (entry_text old.proof (next_position n old.book.entries) e)) (sym applied.first) part.1;
           text =
-              subst (λ n. Appends old.opened.sink.written now.sink.written (lines_text (entries_lines old.proof n old.book.entries) ++ take part.0 (entry_text old.proof (next_position n old.book.entries) e))) (sym applied.first)
+              subst (λ n. Appends old.opened.sink.written now.sink.written (lines_text (entries_lines old.proof n old.book.entries) ++ take part.0
+              (entry_text old.proof (next_position n old.book.entries) e))) (sym applied.first)
               (Appends-trans old.opened.sink.written old.now.sink.written now.sink.written front_text (take part.0 more) before.0 part.2);
           told = subst (λ ns. HaveHeard ns old.opened.notifiers now.notifiers) (sym old-notices)
               (subst (λ ns. HaveHeard (notices_in old.book old.book.entries) old.opened.notifiers ns) (sym same) before.1);
@@ -127,7 +169,8 @@ module _ (old : DeskView) (lane : ℕ) (command : Command) (reply : Reply) (book
 
   -- the desk is one after a command that was taken
   pub desk-entered : (notices : List Notice) → notices ≡ entry_notices old.book.state command Closed → old.now.sink.faults ≤ now.sink.faults
-      → (fault : Option ReportFault) → WroteLast fault more notices reply old.now now → IsDesk (record { book = book; proof = old.proof; opened = old.opened; now = now; fault = fault })
+      → (fault : Option ReportFault) → WroteLast fault more notices reply old.now now → IsDesk
+      (record { book = book; proof = old.proof; opened = old.opened; now = now; fault = fault })
   desk-entered notices is falls None w = desk-told w.0 falls notices is w.1
   desk-entered notices is falls (Some fault) w = desk-broken fault w.0 falls w.1 w.2
 
@@ -164,4 +207,5 @@ log-more old new lane of command reply is entered =
 
 -- the last of entries
 pub last-is : (es before : List Entry) (last e : Entry) → es ≡ before ++ last ∷ [] → e ≡ get_or es (length es - 1) e → e ≡ last
-last-is es before last e is at = at ∙ ap (λ (l : List Entry). get_or l (length l - 1) e) is ∙ get_or_push before last e (length (before ++ last ∷ []) - 1) (omega (arith, length_push before last))
+last-is es before last e is at = at ∙ ap (λ (l : List Entry). get_or l (length l - 1) e) is ∙
+    get_or_push before last e (length (before ++ last ∷ []) - 1) (omega (arith, length_push before last))

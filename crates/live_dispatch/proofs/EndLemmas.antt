@@ -37,17 +37,20 @@ module _ (settings : Settings) (roads : Roads) (start : Moment) where
       (begun-ended failed (outputs_of now) fault ended is (begins-here settings roads start now Now stands now.sink.faults begin) (λ e. absurd (no_write e)) read stands.writes)
 
   -- behind the last row
-  module _ (now : Moment) (Now : List ScriptRow → Type 0) (stands : Stands settings roads start now Now) (all : AreRows start.rows stands.lines) (failed : ℕ) (sink : SinkView) where
+  module _ (now : Moment) (Now : List ScriptRow → Type 0) (stands : Stands settings roads start now Now) (all : AreRows start.rows stands.lines) (failed : ℕ)
+      (sink : SinkView) where
     abbrev last_line : List ℕ
     last_line = end_text (position_after_run start.book.first stands.journals)
 
     abbrev last : OutputsView
     last = record { sink = sink; notifiers = now.notifiers }
 
-    whole-end : (done : Unit {0}) → WritesText (record { before = now.sink; after = sink }) last_line (Ok done) → HasEnded settings roads start failed last (Ok done)
+    whole-end : (done : Unit {0}) → WritesText (record { before = now.sink; after = sink }) last_line (Ok done) →
+        HasEnded settings roads start failed last (Ok done)
     whole-end done w = search (rules, Appends-trans)
 
-    part-end : (fault : ReportFault) → WritesText (record { before = now.sink; after = sink }) last_line (Err fault) → HasEnded settings roads start failed last (Err (of_report fault))
+    part-end : (fault : ReportFault) → WritesText (record { before = now.sink; after = sink }) last_line (Err fault) →
+        HasEnded settings roads start failed last (Err (of_report fault))
     part-end fault w =
         let falls : now.sink.faults ≤ sink.faults = w.never_falls in
         begun-ended failed last (of_report fault) (Err (of_report fault)) refl
@@ -56,7 +59,8 @@ module _ (settings : Settings) (roads : Roads) (start : Moment) where
         (λ e. absurd (no_read_of fault e))
         (omega (arith, falls, stands.writes))
 
-    by-answer : (answer : Result (Unit {0}) ReportFault) → WritesText (record { before = now.sink; after = sink }) last_line answer → HasEnded settings roads start failed last (ended_by answer)
+    by-answer : (answer : Result (Unit {0}) ReportFault) → WritesText (record { before = now.sink; after = sink }) last_line answer →
+        HasEnded settings roads start failed last (ended_by answer)
     by-answer (Ok done) w = whole-end done w
     by-answer (Err fault) w = part-end fault w
 
@@ -74,26 +78,30 @@ module _ (settings : Settings) (roads : Roads) (start : Moment) where
       subst (λ (o : OutputsView). HasEnded settings roads start failed o ended) (sym outputs_are)
       (subst (λ ns. HasEnded settings roads start failed (record { sink = now.sink; notifiers = ns }) ended) (sym opens.same.2)
       (begun-ended failed (record { sink = now.sink; notifiers = before.notifiers }) live.OutOfMemory ended is
-      (row-begins settings roads start before row opens.stands opens.behind now.sink.written now.sink.faults (whole-some before.sink.written now.sink.written (row_text settings.proof before.round before.book row) opens.text))
+      (row-begins settings roads start before row opens.stands opens.behind now.sink.written now.sink.faults
+      (whole-some before.sink.written now.sink.written (row_text settings.proof before.round before.book row) opens.text))
       (λ e. absurd cc) (λ e. absurd cc) (omega (arith, opens.writes, falls))))
 
   -- behind an open batch
   module _ (b : Batch) (round : ℕ) (book : BookView) (rows : Option (List ScriptRow)) (outputs : OutputsView) (closed : Bool) (end : Halt) (fault : Option ReportFault) (reads : ℕ)
       (on : HasRunOn settings roads start b round book rows outputs closed end fault reads) (cut : BookView) where
     start-reads : start.reads ≤ reads
-    start-reads = (let were : start.reads ≤ on.opens.before.reads = on.opens.stands.reads in let a = on.opens.same.1 in let c = on.reads_were in omega (arith, were, a, c))
+    start-reads = (let were : start.reads ≤ on.opens.before.reads = on.opens.stands.reads in let a = on.opens.same.1 in let c =
+        on.reads_were in omega (arith, were, a, c))
 
     start-writes : start.sink.faults ≤ outputs.sink.faults
     start-writes = search rules
 
-    pub batch-failed : (why : LiveFault) (failed : ℕ) (ended : Result (Unit {0}) LiveFault) → HasCut book cut closed fault (Err why) → ended ≡ Err why → HasEnded settings roads start failed outputs ended
+    pub batch-failed : (why : LiveFault) (failed : ℕ) (ended : Result (Unit {0}) LiveFault) → HasCut book cut closed fault (Err why) → ended ≡ Err why →
+        HasEnded settings roads start failed outputs ended
     batch-failed why failed ended has_cut is =
         begun-ended failed outputs why ended is (batch-begins settings roads start b round book rows outputs closed end fault reads on)
         (λ e. rose (has_cut.write_fault (ap Err e))) (λ e. absurd (has_cut.no_read (ap Err e))) start-writes
       where
         rose : fault ≡ Some report.WriteFault → Rose start.sink.faults outputs.sink.faults
         rose e =
-            let broke : IsPassedOn (Some report.WriteFault) settings.proof book (outputs_of on.sealed) outputs = subst (λ f. IsPassedOn f settings.proof book (outputs_of on.sealed) outputs) e on.ran.desk.told in
+            let broke : IsPassedOn (Some report.WriteFault) settings.proof book (outputs_of on.sealed) outputs =
+            subst (λ f. IsPassedOn f settings.proof book (outputs_of on.sealed) outputs) e on.ran.desk.told in
             let were : start.sink.faults ≤ on.opens.before.sink.faults = on.opens.stands.writes in
             let here : on.opens.before.sink.faults ≤ on.sealed.sink.faults = on.opens.writes in
             let risen : Rose on.sealed.sink.faults outputs.sink.faults = broke.fault refl in
@@ -109,7 +117,8 @@ module _ (settings : Settings) (roads : Roads) (start : Moment) where
     pub batch-stood : (done : Unit {0}) (count : ℕ) (Now : List ScriptRow → Type 0) → HasCut book cut closed fault (Ok done) → reads ≤ count → Now lines
         → Stands settings roads start (behind_it count) Now
     batch-stood done count Now has_cut failed are =
-        batch-stands settings roads start b round book rows outputs closed end fault reads on (behind_it count) Now has_cut.is_closed has_cut.whole has_cut.cut refl refl failed are
+        batch-stands settings roads start b round book rows outputs closed end fault reads on (behind_it count) Now has_cut.is_closed has_cut.whole has_cut.cut
+        refl refl failed are
 
     pub batch-held : (done : Unit {0}) (row : ScriptRow) (count : ℕ) → HasCut book cut closed fault (Ok done) → end ≡ stop.Held row → FaultsFrom end reads count
         → Stands settings roads start (behind_it count) (HaveCome start (behind_it count) (Some row))
@@ -119,16 +128,20 @@ module _ (settings : Settings) (roads : Roads) (start : Moment) where
 
     pub batch-last : (done : Unit {0}) (failed : ℕ) (last : OutputsView) (ended : Result (Unit {0}) LiveFault) → HasCut book cut closed fault (Ok done) → end ≡ stop.Ended
         → last.notifiers ≡ outputs.notifiers
-        → (answer : Result (Unit {0}) ReportFault) × (ended ≡ ended_by answer) × WritesText (record { before = outputs.sink; after = last.sink }) (end_text (next_position cut.first cut.entries)) answer
+        → (answer : Result (Unit {0}) ReportFault) × (ended ≡ ended_by answer) × WritesText (record { before = outputs.sink; after = last.sink })
+        (end_text (next_position cut.first cut.entries)) answer
         → HasEnded settings roads start failed last ended
     batch-last done failed last ended has_cut is same wrote =
-        let are : AreRows start.rows lines = subst (λ e. TakesRun e start.rows rows lines) is (lines-behind settings roads start b round book rows outputs closed end fault reads on) in
+        let are : AreRows start.rows lines = subst (λ e. TakesRun e start.rows rows lines) is
+        (lines-behind settings roads start b round book rows outputs closed end fault reads on) in
         let stands = batch-stood done reads (AreRows start.rows) has_cut (omega arith) are in
-        all-ended (behind_it reads) (AreRows start.rows) stands stands.are failed last.sink last ended (λ i. record { sink = last.sink; notifiers = same i }) wrote
+        all-ended (behind_it reads) (AreRows start.rows) stands stands.are failed last.sink last ended (λ i. record { sink = last.sink; notifiers = same i })
+        wrote
 
     pub batch-stopped : (done : Unit {0}) (failed : ℕ) (last : OutputsView) (why : LiveFault) (ended : Result (Unit {0}) LiveFault) → HasCut book cut closed fault (Ok done)
         → ended ≡ Err why → last ≡ outputs → (why ≡ live.WriteFault → ⊥) → (why ≡ live.ReadFault → Rose reads failed) → HasEnded settings roads start failed last ended
     batch-stopped done failed last why ended has_cut ended_is last_is no_write rose =
         let are = runs-begin end start.rows rows lines (lines-behind settings roads start b round book rows outputs closed end fault reads on) in
         let stands = batch-stood done reads (BeginWithRows start.rows) has_cut (omega arith) are in
-        stood-ended (behind_it reads) (BeginWithRows start.rows) stands stands.are failed last why ended ended_is last_is no_write (λ e. omega (arith, rose e, start-reads))
+        stood-ended (behind_it reads) (BeginWithRows start.rows) stands stands.are failed last why ended ended_is last_is no_write
+        (λ e. omega (arith, rose e, start-reads))

@@ -22,8 +22,10 @@ abbrev pub HasRun : {B : Type 0} → ℕ → Option (List ScriptRow) → Option 
 HasRun round old now p = RanRows round (commands_in p) (TakesRows old now)
 
 -- one more row
-pub run-more : (round : ℕ) (old now next : Option (List ScriptRow)) {B : Type 0} (p q : PassValue B LaneCommand LockedReply) (line : ScriptRow) (call : ℕ × LoggedCall LaneCommand LockedReply)
-    → HasRun round old now p → TakesRows now next (line ∷ []) → GoesOn round line → q.calls ≡ p.calls ++ call ∷ [] → call.1.call ≡ row_command line → HasRun round old next q
+pub run-more : (round : ℕ) (old now next : Option (List ScriptRow)) {B : Type 0} (p q : PassValue B LaneCommand LockedReply) (line : ScriptRow)
+    (call : ℕ × LoggedCall LaneCommand LockedReply)
+    → HasRun round old now p → TakesRows now next (line ∷ []) → GoesOn round line → q.calls ≡ p.calls ++ call ∷ [] → call.1.call ≡ row_command line →
+    HasRun round old next q
 run-more round old now next p q line call so_far taken may calls is = record {
   run = so_far.run ++ line ∷ [];
   going = All-push (GoesOn round) so_far.run line so_far.going may;
@@ -37,7 +39,8 @@ run-more round old now next p q line call so_far taken may calls is = record {
 }
 
 -- the same rows, of which something else holds
-pub ran-so : (round : ℕ) (cs : List LaneCommand) (Are Be : List ScriptRow → Type 0) → ((run : List ScriptRow) → Are run → Be run) → RanRows round cs Are → RanRows round cs Be
+pub ran-so : (round : ℕ) (cs : List LaneCommand) (Are Be : List ScriptRow → Type 0) → ((run : List ScriptRow) → Are run → Be run) → RanRows round cs Are →
+    RanRows round cs Be
 ran-so round cs Are Be so ran = record { run = ran.run; going = ran.going; called = ran.called; taken = so ran.run ran.taken }
 
 -- what holds of a result that is no error

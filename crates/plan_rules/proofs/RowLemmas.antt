@@ -1,6 +1,53 @@
 -- Rows: rising riders, and the order of vehicles.
-use Rattle.std.proofs.Common.{◌≡◌, ◌==◌, ◌⊎◌, ℕ, zero, suc, ◌+◌, ◌-◌, ◌<◌, ◌≤◌, true, false, List, [], ◌∷◌, ◌++◌, length, get_or, eqb, not, Ordering, Less, Equal, Greater, nat_cmp, refl, ap, inl, inr, arith, rules}
-use Rattle.plan_rules.proofs.Common.{ordering_then, ordering_index, get_or_push, get_or_append_left, cases_eq, both_ways, nat_tests, Graph, row_at, row_vehicle, IsInOrder, AreRisingBelow, IsStartOf, row_cmp}
+use Rattle.std.proofs.Common.{
+  ◌≡◌,
+  ◌==◌,
+  ◌⊎◌,
+  ℕ,
+  zero,
+  suc,
+  ◌+◌,
+  ◌-◌,
+  ◌<◌,
+  ◌≤◌,
+  true,
+  false,
+  List,
+  [],
+  ◌∷◌,
+  ◌++◌,
+  length,
+  get_or,
+  eqb,
+  not,
+  Ordering,
+  Less,
+  Equal,
+  Greater,
+  nat_cmp,
+  refl,
+  ap,
+  inl,
+  inr,
+  arith,
+  rules,
+}
+use Rattle.plan_rules.proofs.Common.{
+  ordering_then,
+  ordering_index,
+  get_or_push,
+  get_or_append_left,
+  cases_eq,
+  both_ways,
+  nat_tests,
+  Graph,
+  row_at,
+  row_vehicle,
+  IsInOrder,
+  AreRisingBelow,
+  IsStartOf,
+  row_cmp,
+}
 use Rattle.plan_rules.specs.GraphFault.{HasRowsInOrder, IsFirstUnordered}
 
 -- the first i numbers rise and are below `riders`, and `least` is one above the last of them
@@ -11,7 +58,8 @@ pub record IsRisingSoFar (riders least i : ℕ) (xs : List ℕ) : Type 0 where
   pub rising : (k : ℕ) → k + 1 < i → get_or xs k 0 < get_or xs (k + 1) 0
 
 -- a number that is too low or too high breaks the order
-pub not_rising : (riders least i : ℕ) (xs : List ℕ) → IsRisingSoFar riders least i xs → i < length xs → (get_or xs i 0 < least) ⊎ (riders ≤ get_or xs i 0) → AreRisingBelow riders xs → ⊥
+pub not_rising : (riders least i : ℕ) (xs : List ℕ) → IsRisingSoFar riders least i xs → i < length xs → (get_or xs i 0 < least) ⊎ (riders ≤ get_or xs i 0) →
+    AreRisingBelow riders xs → ⊥
 not_rising riders least i xs h l (inr high) all = search rules
 not_rising riders least zero xs h l (inl low) all = search rules
 not_rising riders least (suc k) xs h l (inl low) all =
@@ -34,7 +82,8 @@ vehicles_rise g order j zero l = search rules
 vehicles_rise g order j (suc n) l = grind (arith, vehicle_rises, (vehicles_rise g order j n))
 
 -- where the rows of vehicle v end, those of the next one start
-pub start_next : (g : Graph) (v row end : ℕ) → HasRowsInOrder g → IsStartOf g v row → row ≤ end → end ≤ length g.rows → ((k : ℕ) → row ≤ k → k < end → row_vehicle g k ≡ v) → (end < length g.rows → row_vehicle g end ≡ v → ⊥) → IsStartOf g (v + 1) end
+pub start_next : (g : Graph) (v row end : ℕ) → HasRowsInOrder g → IsStartOf g v row → row ≤ end → end ≤ length g.rows →
+    ((k : ℕ) → row ≤ k → k < end → row_vehicle g k ≡ v) → (end < length g.rows → row_vehicle g end ≡ v → ⊥) → IsStartOf g (v + 1) end
 start_next g v row end order start up within own next = record {
   within = within;
   below = λ k l. grind (arith, l, start.below k, own k);
@@ -48,11 +97,13 @@ start_next g v row end order start up within own next = record {
 }
 
 -- the start of one more vehicle at the end of the list
-pub starts_push : (g : Graph) (starts : List ℕ) (row n : ℕ) → length starts ≡ n → ((v : ℕ) → v < n → IsStartOf g v (get_or starts v 0)) → IsStartOf g n row → (v : ℕ) → v < n + 1 → IsStartOf g v (get_or (starts ++ row ∷ []) v 0)
+pub starts_push : (g : Graph) (starts : List ℕ) (row n : ℕ) → length starts ≡ n → ((v : ℕ) → v < n → IsStartOf g v (get_or starts v 0)) → IsStartOf g n row →
+    (v : ℕ) → v < n + 1 → IsStartOf g v (get_or (starts ++ row ∷ []) v 0)
 starts_push g starts row n long before here v l = search (rules, get_or_push, get_or_append_left, cases_eq)
 
 -- the first row that isn't above the one before it
-pub first_unordered : (g : Graph) (k : ℕ) → 1 ≤ k → k < length g.rows → ((j : ℕ) → suc j < k → IsInOrder g j) → (row_cmp (row_at g (k - 1)) (row_at g k) ≡ Less → ⊥) → IsFirstUnordered g k
+pub first_unordered : (g : Graph) (k : ℕ) → 1 ≤ k → k < length g.rows → ((j : ℕ) → suc j < k → IsInOrder g j) →
+    (row_cmp (row_at g (k - 1)) (row_at g k) ≡ Less → ⊥) → IsFirstUnordered g k
 first_unordered g zero low within before wrong = absurd (omega (arith, low))
 first_unordered g (suc j) low within before wrong = search rules
 

@@ -25,9 +25,11 @@ module _ (n : ℕ) (cells : List ℕ) (square : length cells ≡ n * n) (fits : 
   cell_of-range : NoneTooLong n cells → (a b : ℕ) → cell_of n cells a b < never → cell_of n cells a b ≤ longest
   cell_of-range none a b below = search (rules, cell_of-to_outside, cell_of-from_outside)
 
-  cell_of-triangle : ((a b c : ℕ) → a < n → b < n → c < n → IsDetourShorter n cells a b c → ⊥) → (a b c : ℕ) → cell_of n cells a c ≤ cell_of n cells a b + cell_of n cells b c
+  cell_of-triangle : ((a b c : ℕ) → a < n → b < n → c < n → IsDetourShorter n cells a b c → ⊥) → (a b c : ℕ) →
+      cell_of n cells a c ≤ cell_of n cells a b + cell_of n cells b c
   cell_of-triangle none a b c = search (rules, cell_of-to_outside, cell_of-most, cell_of-from_outside)
 
   -- cells in which nothing is wrong are a table
-  pub IsTable-from_none : NoneTooLong n cells → NoneOffZero n cells → ((a b c : ℕ) → a < n → b < n → c < n → IsDetourShorter n cells a b c → ⊥) → IsTable n cells
+  pub IsTable-from_none : NoneTooLong n cells → NoneOffZero n cells → ((a b c : ℕ) → a < n → b < n → c < n → IsDetourShorter n cells a b c → ⊥) →
+      IsTable n cells
   IsTable-from_none short zeros detours = search (rules, zero_from, cell_of-triangle, cell_of-range, cell_of-most, cell_of-from_outside, cell_of-to_outside)

@@ -1,5 +1,31 @@
 -- Fields that lie one behind the other, cut at their ends.
-use Rattle.std.proofs.Common.{◌≡◌, ℕ, zero, suc, ◌+◌, ◌-◌, ◌<◌, ◌≤◌, List, [], ◌∷◌, ◌++◌, length, get_or, take, drop, refl, sym, ap, ◌∙◌, subst, arith, length-append, length-drop, le_refl}
+use Rattle.std.proofs.Common.{
+  ◌≡◌,
+  ℕ,
+  zero,
+  suc,
+  ◌+◌,
+  ◌-◌,
+  ◌<◌,
+  ◌≤◌,
+  List,
+  [],
+  ◌∷◌,
+  ◌++◌,
+  length,
+  get_or,
+  take,
+  drop,
+  refl,
+  sym,
+  ap,
+  ◌∙◌,
+  subst,
+  arith,
+  length-append,
+  length-drop,
+  le_refl,
+}
 use Rattle.std.specs.Prelude.{slice_index, slice_range}
 use Rattle.std.proofs.lemmas.List.{take_all, drop_at}
 use Rattle.pool_io.proofs.Common.{take-append-le, drop-append-le, AreEnds, cut_fields, start_at}
@@ -26,7 +52,8 @@ pub ends_more : (start : ℕ) (ends : List ℕ) (all more : ℕ) → AreEnds sta
 ends_more start [] all more is = (omega (arith, is), refl)
 ends_more start (end ∷ ends) all more is = (is.0, ends_more end ends all more is.1)
 
-pub cut_fields-more : (start : ℕ) (ends bytes field : List ℕ) → AreEnds start ends (length bytes) → cut_fields start (ends ++ (length bytes + length field) ∷ []) (bytes ++ field) ≡ cut_fields start ends bytes ++ field ∷ []
+pub cut_fields-more : (start : ℕ) (ends bytes field : List ℕ) → AreEnds start ends (length bytes) →
+    cut_fields start (ends ++ (length bytes + length field) ∷ []) (bytes ++ field) ≡ cut_fields start ends bytes ++ field ∷ []
 cut_fields-more start [] bytes field is = rw is (ap (λ x. x ∷ []) (range_added bytes field))
 cut_fields-more start (end ∷ ends) bytes field is =
     rw (range_append bytes field start end is.0 (start_le end ends (length bytes) is.1), cut_fields-more end ends bytes field is.1) refl

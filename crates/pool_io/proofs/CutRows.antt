@@ -1,5 +1,36 @@
 -- A flat list of fields, cut into rows.
-use Rattle.std.proofs.Common.{rules, ◌≡◌, ℕ, zero, suc, ◌+◌, ◌*◌, ◌<◌, ◌==◌, not, List, [], ◌∷◌, ◌++◌, Some, None, length, get_or, drop, refl, sym, ap, ◌∙◌, arith, true, Bool, inl, inr, length-drop, length-take}
+use Rattle.std.proofs.Common.{
+  rules,
+  ◌≡◌,
+  ℕ,
+  zero,
+  suc,
+  ◌+◌,
+  ◌*◌,
+  ◌<◌,
+  ◌==◌,
+  not,
+  List,
+  [],
+  ◌∷◌,
+  ◌++◌,
+  Some,
+  None,
+  length,
+  get_or,
+  drop,
+  refl,
+  sym,
+  ap,
+  ◌∙◌,
+  arith,
+  true,
+  Bool,
+  inl,
+  inr,
+  length-drop,
+  length-take,
+}
 use Rattle.pool_io.proofs.Common.{take-append-le, drop-append-le, nil_from_length, cases_Bool, none-some, position_from, cut_rows}
 use Rattle.std.proofs.lemmas.List.{take_all, get_or-take, get_or-drop}
 

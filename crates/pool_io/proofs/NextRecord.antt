@@ -9,7 +9,8 @@ pub read_on : (bytes : List ℕ) (rows : List (List (List ℕ))) (old new : Read
     → HasRead bytes rows old → ReadRecord (λ (text : Bor (List ℕ)). Some text.now) old new found fields → (new.first ≡ true)
     → MatchBool found (HasRead bytes (rows ++ fields ∷ []) new) (records_of bytes ≡ rows)
 read_on bytes rows old new true fields h r began =
-    let more = rows-more (λ (text : Bor (List ℕ)). Some text.now) old new fields default_config st.StartRecord (strip_bom bytes) h.rest rows h.config h.left h.reached r in
+    let more = rows-more (λ (text : Bor (List ℕ)). Some text.now) old new fields default_config st.StartRecord (strip_bom bytes) h.rest rows h.config h.left
+    h.reached r in
     record {
       untrimmed = r.3 ∙ h.untrimmed;
       ready = inl began;

@@ -15,16 +15,18 @@ some_read : (p q : Read) (n : ℕ) → Some p ≡ Some q → Shrinks n p → Shr
 some_read p q n e h = let same : p ≡ q = cc in rw same at h
 
 -- a record takes bytes, or ends an empty rest
-next_takes : (cfg : Config) (s : State) (fields : List (List ℕ)) (field xs : List ℕ) (q : Read) → next_record cfg s fields field xs ≡ Some q → Shrinks (length xs) q
+next_takes : (cfg : Config) (s : State) (fields : List (List ℕ)) (field xs : List ℕ) (q : Read) → next_record cfg s fields field xs ≡ Some q →
+    Shrinks (length xs) q
 unfolding next_record
 next_takes cfg s fields field [] q e = search (rules, cases_Bool, some_read, none-some)
 next_takes cfg s fields field (c ∷ rest) q e =
     elim (cases_Bool (is_end (step cfg s c).1)) [
       | inl passes ↦ some_read (fields_after (step cfg s c).1 fields field, (step cfg s c).0, rest) q (suc (length rest)) (rw passes at e) (inr (omega arith))
-      | inr fails ↦ elim (next_takes cfg (step cfg s c).0 (fields_after (step cfg s c).1 fields field) (field_after (step cfg s c).1 c field) rest q (rw fails at e)) [
-        | inl ended ↦ inl ended
-        | inr shorter ↦ inr (omega (arith, shorter))
-      ]
+      | inr fails ↦ elim (next_takes cfg (step cfg s c).0 (fields_after (step cfg s c).1 fields field) (field_after (step cfg s c).1 c field) rest q
+          (rw fails at e)) [
+            | inl ended ↦ inl ended
+            | inr shorter ↦ inr (omega (arith, shorter))
+          ]
     ]
 
 -- from a start no record comes of no byte
@@ -33,7 +35,8 @@ unfolding next_record
 no_more t zs start none q e = none-some q (rw (start, none) at e)
 
 -- there are at most as many records as bytes, and one
-reached_fits : (s : State) (xs : List ℕ) (rows : List (List (List ℕ))) (s2 : State) (ys : List ℕ) → Reached default_config s xs rows s2 ys → length rows ≤ length xs + 1
+reached_fits : (s : State) (xs : List ℕ) (rows : List (List (List ℕ))) (s2 : State) (ys : List ℕ) → Reached default_config s xs rows s2 ys →
+    length rows ≤ length xs + 1
 unfolding Reached
 reached_fits s xs [] s2 ys h = omega arith
 reached_fits s xs (r ∷ []) s2 ys h = omega arith
@@ -42,7 +45,8 @@ reached_fits s xs (r ∷ r2 ∷ rows) s2 ys h = elim (next_takes default_config 
   | inr shorter ↦ omega (arith, shorter, reached_fits h.0.1 h.0.2 (r2 ∷ rows) s2 ys h.3)
 ]
 
-records_from-reached : (cfg : Config) (n : ℕ) (s : State) (xs : List ℕ) (rows : List (List (List ℕ))) (s2 : State) (ys : List ℕ) → Reached cfg s xs rows s2 ys → length rows ≤ n
+records_from-reached : (cfg : Config) (n : ℕ) (s : State) (xs : List ℕ) (rows : List (List (List ℕ))) (s2 : State) (ys : List ℕ) → Reached cfg s xs rows s2 ys →
+    length rows ≤ n
     → records_from cfg n s xs ≡ rows ++ records_from cfg (n - length rows) s2 ys
 unfolding Reached records_from
 records_from-reached cfg n s xs [] s2 ys h fits = search rules
@@ -55,14 +59,19 @@ records_from-end cfg zero s ys e = refl
 records_from-end cfg (suc n) s ys e = rw e refl
 
 -- what was reached begins the records of the bytes
-pub records_of-begin : (bytes : List ℕ) (rows : List (List (List ℕ))) (s : State) (ys : List ℕ) → Reached default_config st.StartRecord (strip_bom bytes) rows s ys
+pub records_of-begin : (bytes : List ℕ) (rows : List (List (List ℕ))) (s : State) (ys : List ℕ) →
+    Reached default_config st.StartRecord (strip_bom bytes) rows s ys
     → (more : List (List (List ℕ))) × (records_of bytes ≡ rows ++ more)
 records_of-begin bytes rows s ys h =
-    let fits = reached_fits st.StartRecord (strip_bom bytes) rows s ys h in
-    (records_from default_config (length (strip_bom bytes) + 1 - length rows) s ys, records_from-reached default_config (length (strip_bom bytes) + 1) st.StartRecord (strip_bom bytes) rows s ys h fits)
+    let fits = reached_fits st.StartRecord (strip_bom bytes) rows s ys h in (
+      records_from default_config (length (strip_bom bytes) + 1 - length rows) s ys,
+      records_from-reached default_config (length (strip_bom bytes) + 1)
+          st.StartRecord (strip_bom bytes) rows s ys h fits,
+    )
 
 -- where no record comes after, these are all
-pub records_of-all : (bytes : List ℕ) (rows : List (List (List ℕ))) (s : State) (ys : List ℕ) → Reached default_config st.StartRecord (strip_bom bytes) rows s ys
+pub records_of-all : (bytes : List ℕ) (rows : List (List (List ℕ))) (s : State) (ys : List ℕ) →
+    Reached default_config st.StartRecord (strip_bom bytes) rows s ys
     → next_record default_config s [] [] ys ≡ None → records_of bytes ≡ rows
 records_of-all bytes rows s ys h none =
     let fits = reached_fits st.StartRecord (strip_bom bytes) rows s ys h in

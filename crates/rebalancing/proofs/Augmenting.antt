@@ -3,7 +3,8 @@ use Rattle.rebalancing.proofs.Common.{cases_eq, IsPriced, IsGrown, IsReached, Is
 use Rattle.std.proofs.lemmas.List.{length-set, get_or-set_same, get_or-set_other}
 use Rattle.rebalancing.proofs.Shifting.{vehicles_differ, IsRooted-kept}
 
-module _ {n m : ℕ} {w : ℕ → ℕ → ℕ} {k : ℕ} {a b q p r c parent place : List ℕ} {rider position v : ℕ} (between : IsOpen n m w k a b q p r c parent place rider position) (ev : slice_index r position ≡ v) where
+module _ {n m : ℕ} {w : ℕ → ℕ → ℕ} {k : ℕ} {a b q p r c parent place : List ℕ} {rider position v : ℕ}
+    (between : IsOpen n m w k a b q p r c parent place rider position) (ev : slice_index r position ≡ v) where
   v_within : v < n
   v_within = rw (← ev) (between.tree.vehicle position (omega arith))
 
@@ -21,14 +22,17 @@ module _ {n m : ℕ} {w : ℕ → ℕ → ℕ} {k : ℕ} {a b q p r c parent pla
   p_other j ne = get_or-set_other p rider j v 0 ne
 
   -- vehicle v takes the rider; the one that it had, if any, is loose then
-  joined : (loose done : ℕ) → rider ≢ loose → ((i : ℕ) → i < n → slice_index q i < m → slice_index q i ≡ loose → i ≡ v) → ((j : ℕ) → j < m → slice_index q v ≡ j → j ≡ loose)
+  joined : (loose done : ℕ) → rider ≢ loose → ((i : ℕ) → i < n → slice_index q i < m → slice_index q i ≡ loose → i ≡ v) →
+      ((j : ℕ) → j < m → slice_index q v ≡ j → j ≡ loose)
       → ((i : ℕ) → i < done → i ≢ v → i < k) → ((i : ℕ) → i < n → k + 1 ≤ i → i ≢ v) → IsPriced n m w done (k + 1) loose a b (set q v rider) (set p rider v)
   joined loose done other its gone before later = record {
     prices = between.priced.prices;
     q_length = length-set q v rider ∙ between.priced.q_length;
     p_length = length-set p rider v ∙ between.priced.p_length;
-    q_most = λ i hi. ⊎_elim (λ (e : i ≡ v). rw (e, q_at) (let h : rider < m = between.rider_within in omega arith)) (λ (ne : i ≢ v). rw (q_other i ne) (between.priced.q_most i hi)) (cases_eq i v);
-    p_most = λ j hj. ⊎_elim (λ (e : j ≡ rider). rw (e, p_at) (let h : v < n = v_within in omega arith)) (λ (ne : j ≢ rider). rw (p_other j ne) (between.priced.p_most j hj)) (cases_eq j rider);
+    q_most = λ i hi. ⊎_elim (λ (e : i ≡ v). rw (e, q_at) (let h : rider < m = between.rider_within in omega arith))
+        (λ (ne : i ≢ v). rw (q_other i ne) (between.priced.q_most i hi)) (cases_eq i v);
+    p_most = λ j hj. ⊎_elim (λ (e : j ≡ rider). rw (e, p_at) (let h : v < n = v_within in omega arith))
+        (λ (ne : j ≢ rider). rw (p_other j ne) (between.priced.p_most j hj)) (cases_eq j rider);
     tight = λ i hi h. ⊎_elim
         (λ (e : i ≡ v). rw (e, q_at) (rw ev at between.last_edge))
         (λ (ne : i ≢ v). let same : slice_index (set q v rider) i ≡ slice_index q i = q_other i ne in rw same (between.priced.tight i hi (rw same at h)))
@@ -67,7 +71,8 @@ module _ {n m : ℕ} {w : ℕ → ℕ → ℕ} {k : ℕ} {a b q p r c parent pla
   IsPriced-closed first = search rules
 
   -- another vehicle takes the rider, and its own rider is to be taken by its parent
-  pub IsOpen-step : {u : ℕ} → slice_index c position ≡ u → 0 < position → IsOpen n m w k a b (set q v rider) (set p rider v) r c parent place u (slice_index parent position)
+  pub IsOpen-step : {u : ℕ} → slice_index c position ≡ u → 0 < position → IsOpen n m w k a b (set q v rider) (set p rider v) r c parent place u
+      (slice_index parent position)
   IsOpen-step {u} eu pp =
       let within : u < m = rw (← eu) (between.tree.rider position pp (omega arith)) in
       let own : slice_index q v ≡ u = rw (ev, eu) at (between.tree.partner position pp (omega arith)) in
@@ -76,25 +81,31 @@ module _ {n m : ℕ} {w : ℕ → ℕ → ℕ} {k : ℕ} {a b q p r c parent pla
       let earlier : slice_index parent position < position = between.tree.earlier position pp (omega arith) in
       let inside : position < length r = between.position_within in
       record {
-        priced = joined u k (λ e. between.priced.apart v v_within matched (own ∙ sym e)) (λ i hi h f. sym (between.priced.forth i hi h) ∙ ap (slice_index p) (f ∙ sym own) ∙ back) (λ j hj e. sym e ∙ own) (λ i lt ne. lt)
-            (λ i hi le e. let at : slice_index q i ≡ u = ap (slice_index q) e ∙ own in let free : m ≤ slice_index q i = between.priced.waiting i hi le in omega arith);
+        priced = joined u k (λ e. between.priced.apart v v_within matched (own ∙ sym e)) (λ i hi h f. sym (between.priced.forth i hi h) ∙
+            ap (slice_index p) (f ∙ sym own) ∙ back) (λ j hj e. sym e ∙ own) (λ i lt ne. lt)
+            (λ i hi le e. let at : slice_index q i ≡ u = ap (slice_index q) e ∙ own in let free : m ≤ slice_index q i =
+            between.priced.waiting i hi le in omega arith);
         tree = IsRooted-kept between.tree (set q v rider) (slice_index parent position + 1) (omega arith) (omega arith)
-            (λ t lt. q_other (slice_index r t) (λ e. let same : t ≡ position = vehicles_differ between.tree t position (omega arith) (omega arith) (e ∙ sym ev) in omega arith));
+            (λ t lt. q_other (slice_index r t) (λ e. let same : t ≡ position = vehicles_differ between.tree t position (omega arith) (omega arith)
+            (e ∙ sym ev) in omega arith));
         rider_within = within;
         position_within = omega arith;
         last_edge = rw eu at (between.tree.edge position pp (omega arith));
       }
 
-module _ {n m : ℕ} {w : ℕ → ℕ → ℕ} {k : ℕ} {a b q p r c parent place : List ℕ} (priced : IsPriced n m w k (k + 1) m a b q p) (grown : IsGrown n m w k a b q r c parent place) where
+module _ {n m : ℕ} {w : ℕ → ℕ → ℕ} {k : ℕ} {a b q p r c parent place : List ℕ} (priced : IsPriced n m w k (k + 1) m a b q p)
+    (grown : IsGrown n m w k a b q r c parent place) where
   -- a rider that is free and tight can be taken by the vehicle that reached it
-  pub IsOpen-free : {ta po : List ℕ} {lowered rider : ℕ} → IsReached m w a b r place ta po lowered → rider < m → slice_index place rider ≡ 0 → slice_index ta rider ≡ lowered → n ≤ slice_index p rider → IsOpen n m w k a b q p r c parent place rider (slice_index po rider)
+  pub IsOpen-free : {ta po : List ℕ} {lowered rider : ℕ} → IsReached m w a b r place ta po lowered → rider < m → slice_index place rider ≡ 0 →
+      slice_index ta rider ≡ lowered → n ≤ slice_index p rider → IsOpen n m w k a b q p r c parent place rider (slice_index po rider)
   IsOpen-free {ta} {po} {lowered} {rider} reached hr out tight free = search rules
 
   -- the root stays unmatched at price 0
   pub IsPriced-root_left : slice_index a k ≡ 0 → IsPriced n m w (k + 1) (k + 1) m a b q p
   IsPriced-root_left zero_price = search rules
 
-  module _ {position v u : ℕ} (ev : slice_index r position ≡ v) (eu : slice_index c position ≡ u) (pp : 0 < position) (hp : position < length r) (zero_price : slice_index a v ≡ 0) where
+  module _ {position v u : ℕ} (ev : slice_index r position ≡ v) (eu : slice_index c position ≡ u) (pp : 0 < position) (hp : position < length r)
+      (zero_price : slice_index a v ≡ 0) where
     rv_within : v < n
     rv_within = rw (← ev) (grown.tree.vehicle position hp)
 

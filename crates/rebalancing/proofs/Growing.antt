@@ -1,5 +1,45 @@
-use Rattle.std.proofs.Common.{◌≡◌, ◌≢◌, ℕ, ◌+◌, ◌*◌, ◌<◌, ◌≤◌, ◌⊎◌, List, [], ◌∷◌, ◌++◌, length, slice_index, set, replicate, refl, sym, ap, ◌∙◌, inl, inr, ⊎_elim, arith, rules}
-use Rattle.rebalancing.proofs.Common.{cases_eq, cases_lt, get_or_append_left, get_or_push, length_push, get_or-replicate, length-replicate, pair_worth, IsPriced, Relaxes, IsGrown, IsReached, IsCheapest}
+use Rattle.std.proofs.Common.{
+  ◌≡◌,
+  ◌≢◌,
+  ℕ,
+  ◌+◌,
+  ◌*◌,
+  ◌<◌,
+  ◌≤◌,
+  ◌⊎◌,
+  List,
+  [],
+  ◌∷◌,
+  ◌++◌,
+  length,
+  slice_index,
+  set,
+  replicate,
+  refl,
+  sym,
+  ap,
+  ◌∙◌,
+  inl,
+  inr,
+  ⊎_elim,
+  arith,
+  rules,
+}
+use Rattle.rebalancing.proofs.Common.{
+  cases_eq,
+  cases_lt,
+  get_or_append_left,
+  get_or_push,
+  length_push,
+  get_or-replicate,
+  length-replicate,
+  pair_worth,
+  IsPriced,
+  Relaxes,
+  IsGrown,
+  IsReached,
+  IsCheapest,
+}
 use Rattle.std.proofs.lemmas.List.{length-set, get_or-set_same, get_or-set_other}
 
 -- no rider's price is above a pair's worth
@@ -12,7 +52,8 @@ module _ {n m : ℕ} {w : ℕ → ℕ → ℕ} {k : ℕ} {a b q p : List ℕ} (p
   IsGrown-root = search (rules, length-replicate, get_or-replicate, slice_index)
 
   -- every rider is tight with the root first
-  pub IsReached-root : {row place ta po ta' po' : List ℕ} {huge : ℕ} → length row ≡ m → length ta ≡ m → length po ≡ m → ((j : ℕ) → j < m → slice_index row j ≡ w k j) → ((j : ℕ) → j < m → slice_index ta j ≡ huge) → 2 * pair_worth < huge
+  pub IsReached-root : {row place ta po ta' po' : List ℕ} {huge : ℕ} → length row ≡ m → length ta ≡ m → length po ≡ m →
+      ((j : ℕ) → j < m → slice_index row j ≡ w k j) → ((j : ℕ) → j < m → slice_index ta j ≡ huge) → 2 * pair_worth < huge
       → Relaxes row b place (slice_index a k) 0 ta po ta' po' → IsReached m w a b (k ∷ []) place ta' po' 0
   IsReached-root {row} {place} {ta} {po} {ta'} {po'} {huge} row_length ta_length po_length weights far large relaxes = search rules
 
@@ -20,7 +61,8 @@ module _ {n m : ℕ} {w : ℕ → ℕ → ℕ} {k : ℕ} {a b q p : List ℕ} (p
   IsCheapest-root = search rules
 
 module _ {n m : ℕ} {w : ℕ → ℕ → ℕ} {k : ℕ} {a b q p r c parent place ta po : List ℕ} {lowered cheapest j v : ℕ}
-    (priced : IsPriced n m w k (k + 1) m a b q p) (grown : IsGrown n m w k a b q r c parent place) (reached : IsReached m w a b r place ta po lowered) (cheap : IsCheapest k a r cheapest lowered)
+    (priced : IsPriced n m w k (k + 1) m a b q p) (grown : IsGrown n m w k a b q r c parent place) (reached : IsReached m w a b r place ta po lowered)
+    (cheap : IsCheapest k a r cheapest lowered)
     (hj : j < m) (out : slice_index place j ≡ 0) (tight : slice_index ta j ≡ lowered) (matched : slice_index p j < n) (ev : slice_index p j ≡ v) where
   v_within : v < n
   v_within = rw (← ev) matched
@@ -64,10 +106,13 @@ module _ {n m : ℕ} {w : ℕ → ℕ → ℕ} {k : ℕ} {a b q p r c parent pla
       root_free = grown.tree.root_free;
       c_length = let e : length c ≡ length r = grown.tree.c_length in omega (arith, length_push r v, length_push c j);
       parent_length = let e : length parent ≡ length r = grown.tree.parent_length in omega (arith, length_push r v, length_push parent (slice_index po j));
-      vehicle = λ t ht. ⊎_elim (λ (lt : t < length r). rw (r_old t lt) (grown.tree.vehicle t lt)) (λ (e : t ≡ length r). rw (e, r_new) v_within) (positions t ht);
+      vehicle = λ t ht. ⊎_elim (λ (lt : t < length r). rw (r_old t lt) (grown.tree.vehicle t lt)) (λ (e : t ≡ length r). rw (e, r_new) v_within)
+          (positions t ht);
       rider = λ t pt ht. ⊎_elim (λ (lt : t < length r). rw (c_old t lt) (grown.tree.rider t pt lt)) (λ (e : t ≡ length r). rw (e, c_new) hj) (positions t ht);
-      partner = λ t pt ht. ⊎_elim (λ (lt : t < length r). rw (r_old t lt, c_old t lt) (grown.tree.partner t pt lt)) (λ (e : t ≡ length r). rw (e, r_new, c_new) (rw ev at (priced.back j hj (λ e. omega arith) matched))) (positions t ht);
-      earlier = λ t pt ht. ⊎_elim (λ (lt : t < length r). rw (parent_old t lt) (grown.tree.earlier t pt lt)) (λ (e : t ≡ length r). rw (e, parent_new) (reached.of_within j hj out)) (positions t ht);
+      partner = λ t pt ht. ⊎_elim (λ (lt : t < length r). rw (r_old t lt, c_old t lt) (grown.tree.partner t pt lt))
+          (λ (e : t ≡ length r). rw (e, r_new, c_new) (rw ev at (priced.back j hj (λ e. omega arith) matched))) (positions t ht);
+      earlier = λ t pt ht. ⊎_elim (λ (lt : t < length r). rw (parent_old t lt) (grown.tree.earlier t pt lt))
+          (λ (e : t ≡ length r). rw (e, parent_new) (reached.of_within j hj out)) (positions t ht);
       edge = λ t pt ht. ⊎_elim
           (λ (lt : t < length r).
           let before : slice_index parent t < length r = let h : slice_index parent t < t = grown.tree.earlier t pt lt in omega arith in
@@ -79,7 +124,8 @@ module _ {n m : ℕ} {w : ℕ → ℕ → ℕ} {k : ℕ} {a b q p r c parent pla
       placed = λ t pt ht. ⊎_elim
           (λ (lt : t < length r).
           let at : slice_index place (slice_index c t) ≡ t = grown.tree.placed t pt lt in
-          let other : slice_index c t ≢ j = λ e. let same : slice_index place (slice_index c t) ≡ slice_index place j = ap (slice_index place) e in omega arith in
+          let other : slice_index c t ≢ j = λ e. let same : slice_index place (slice_index c t) ≡ slice_index place j =
+          ap (slice_index place) e in omega arith in
           rw (c_old t lt) (place_other (slice_index c t) other ∙ at))
           (λ (e : t ≡ length r). rw (e, c_new) place_new)
           (positions t ht);
@@ -88,7 +134,8 @@ module _ {n m : ℕ} {w : ℕ → ℕ → ℕ} {k : ℕ} {a b q p r c parent pla
     place_length = length-set place j (length r) ∙ grown.place_length;
     place_most = λ i hi. ⊎_elim
         (λ (e : i ≡ j). rw (e, place_new) (omega (arith, length_push r v)))
-        (λ (ne : i ≢ j). let is : slice_index (set place j (length r)) i ≡ slice_index place i = place_other i ne in let h : slice_index place i < length r = grown.place_most i hi in omega (arith, length_push r v))
+        (λ (ne : i ≢ j). let is : slice_index (set place j (length r)) i ≡ slice_index place i = place_other i ne in let h : slice_index place i < length r =
+        grown.place_most i hi in omega (arith, length_push r v))
         (cases_eq i j);
     found = λ i hi pp. ⊎_elim
         (λ (e : i ≡ j). rw (e, place_new) c_new)
@@ -98,7 +145,8 @@ module _ {n m : ℕ} {w : ℕ → ℕ → ℕ} {k : ℕ} {a b q p r c parent pla
         (cases_eq i j);
   }
 
-  pub IsReached-more : {row ta' po' : List ℕ} → length row ≡ m → ((i : ℕ) → i < m → slice_index row i ≡ w v i) → Relaxes row b (set place j (length r)) (slice_index a v + lowered) (length r) ta po ta' po'
+  pub IsReached-more : {row ta' po' : List ℕ} → length row ≡ m → ((i : ℕ) → i < m → slice_index row i ≡ w v i) →
+      Relaxes row b (set place j (length r)) (slice_index a v + lowered) (length r) ta po ta' po'
       → IsReached m w a b (r ++ v ∷ []) (set place j (length r)) ta' po' lowered
   IsReached-more {row} {ta'} {po'} row_length weights relaxes =
       let near : (i : ℕ) → i < m → slice_index (set place j (length r)) i ≡ 0 → w v i + slice_index ta' i ≤ slice_index a v + lowered + slice_index b i =
@@ -117,7 +165,8 @@ module _ {n m : ℕ} {w : ℕ → ℕ → ℕ} {k : ℕ} {a b q p r c parent pla
             (relaxes.from i (rw row_length hi) away);
         no_earlier = λ i t hi away ht. ⊎_elim
             (λ (lt : t < length r). rw (r_old t lt) (omega (arith, relaxes.no_later i (rw row_length hi) away, reached.no_earlier i t hi (outside i away) lt)))
-            (λ (e : t ≡ length r). let here : w v i + slice_index ta' i ≤ slice_index a v + lowered + slice_index b i = near i hi away in rw (e, r_new) (omega arith))
+            (λ (e : t ≡ length r). let here : w v i + slice_index ta' i ≤ slice_index a v + lowered + slice_index b i =
+            near i hi away in rw (e, r_new) (omega arith))
             (positions t ht);
         exactly = λ i hi away. ⊎_elim
             (λ (new : (slice_index row i + slice_index ta' i ≡ slice_index a v + lowered + slice_index b i) × (slice_index po' i ≡ length r)).

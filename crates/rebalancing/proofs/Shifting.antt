@@ -13,10 +13,12 @@ module _ {n m : ℕ} {w : ℕ → ℕ → ℕ} {k : ℕ} {a b q r c parent place
   vehicles_differ (suc s) (suc t) hs ht e = search rules
 
   -- fewer positions are as they were where their vehicles have the riders that they had
-  pub IsRooted-kept : (others : List ℕ) (fewer : ℕ) → 0 < fewer → fewer ≤ count → ((t : ℕ) → t < fewer → slice_index others (slice_index r t) ≡ slice_index q (slice_index r t)) → IsRooted n m w k a b others r c parent place fewer
+  pub IsRooted-kept : (others : List ℕ) (fewer : ℕ) → 0 < fewer → fewer ≤ count → ((t : ℕ) → t < fewer →
+      slice_index others (slice_index r t) ≡ slice_index q (slice_index r t)) → IsRooted n m w k a b others r c parent place fewer
   IsRooted-kept others fewer some le same = search rules
 
-module _ {n m : ℕ} {w : ℕ → ℕ → ℕ} {k : ℕ} {a b q p r c parent place : List ℕ} (priced : IsPriced n m w k (k + 1) m a b q p) (grown : IsGrown n m w k a b q r c parent place) where
+module _ {n m : ℕ} {w : ℕ → ℕ → ℕ} {k : ℕ} {a b q p r c parent place : List ℕ} (priced : IsPriced n m w k (k + 1) m a b q p)
+    (grown : IsGrown n m w k a b q r c parent place) where
   -- a vehicle that is neither the root nor has a rider of the tree isn't in the tree
   out_of_tree : (i : ℕ) → i ≢ k → (slice_index q i < m → slice_index place (slice_index q i) ≡ 0) → (t : ℕ) → t < length r → slice_index r t ≢ i
   out_of_tree i other out zero ht e = other (sym e ∙ grown.tree.root)
@@ -34,7 +36,8 @@ module _ {n m : ℕ} {w : ℕ → ℕ → ℕ} {k : ℕ} {a b q p r c parent pla
       let ht : slice_index place (slice_index q i) < length r = grown.place_most (slice_index q i) matched in
       let rider : slice_index c (slice_index place (slice_index q i)) ≡ slice_index q i = grown.found (slice_index q i) matched inside in
       let partner : slice_index q (slice_index r t) ≡ slice_index q i = grown.tree.partner t inside ht ∙ rider in
-      let own : slice_index p (slice_index q (slice_index r t)) ≡ slice_index r t = priced.forth (slice_index r t) (grown.tree.vehicle t ht) (rw partner matched) in
+      let own : slice_index p (slice_index q (slice_index r t)) ≡ slice_index r t = priced.forth (slice_index r t) (grown.tree.vehicle t ht)
+      (rw partner matched) in
       let its : slice_index p (slice_index q i) ≡ i = priced.forth i hi matched in
       inl (t, ht, sym own ∙ ap (slice_index p) partner ∙ its))
       (λ (outside : slice_index place (slice_index q i) ≤ 0). inr (out_of_tree i other (λ _. omega arith)))
@@ -74,7 +77,8 @@ module _ {n m : ℕ} {w : ℕ → ℕ → ℕ} {k : ℕ} {a b q p r c parent pla
         let same : slice_index b' j ≡ slice_index b j = rise.outside j (λ s ps hs. rider_outside j out s ps (rw grown.tree.c_length at hs)) in
         let bound : w i j + slice_index ta j ≤ slice_index a i + slice_index b j + lowered = rw vehicle.2 at (reached.no_earlier j t hj out vehicle.1) in
         omega (arith, near j hj out))
-        (⊎_elim (λ (inside : 0 < slice_index place j). inl (slice_index place j, inside, grown.place_most j hj, grown.found j hj inside)) (λ h. inr h) (cases_lt 0 (slice_index place j))))
+        (⊎_elim (λ (inside : 0 < slice_index place j). inl (slice_index place j, inside, grown.place_most j hj, grown.found j hj inside)) (λ h. inr h)
+        (cases_lt 0 (slice_index place j))))
         (λ (outside : (t : ℕ) → t < length r → slice_index r t ≢ i).
         let same_price : slice_index a' i ≡ slice_index a i = fall.outside i outside in
         ⊎_elim
@@ -111,8 +115,10 @@ module _ {n m : ℕ} {w : ℕ → ℕ → ℕ} {k : ℕ} {a b q p r c parent pla
         (λ (outside : (t : ℕ) → t < length r → slice_index r t ≢ i).
         let rider_out : (s : ℕ) → 0 < s → s < length r → slice_index c s ≢ slice_index q i = λ s ps hs e.
         let partner : slice_index q (slice_index r s) ≡ slice_index q i = grown.tree.partner s ps hs ∙ e in
-        outside s hs (sym (priced.forth (slice_index r s) (grown.tree.vehicle s hs) (rw partner matched)) ∙ ap (slice_index p) partner ∙ priced.forth i hi matched) in
-        let same : slice_index b' (slice_index q i) ≡ slice_index b (slice_index q i) = rise.outside (slice_index q i) (λ s ps hs. rider_out s ps (rw grown.tree.c_length at hs)) in
+        outside s hs (sym (priced.forth (slice_index r s) (grown.tree.vehicle s hs) (rw partner matched)) ∙ ap (slice_index p) partner ∙
+        priced.forth i hi matched) in
+        let same : slice_index b' (slice_index q i) ≡ slice_index b (slice_index q i) = rise.outside (slice_index q i)
+        (λ s ps hs. rider_out s ps (rw grown.tree.c_length at hs)) in
         omega (arith, fall.outside i outside))
         (vehicle_cases i hi)
 
@@ -128,7 +134,8 @@ module _ {n m : ℕ} {w : ℕ → ℕ → ℕ} {k : ℕ} {a b q p r c parent pla
         a_most = λ i hi.
             let was : slice_index a i ≤ pair_worth = priced.prices.a_most i hi in
             ⊎_elim
-            (λ (vehicle : (t : ℕ) × (t < length r) × (slice_index r t ≡ i)). let fell : slice_index a' i + by ≡ slice_index a i = rw vehicle.2 at (fall.inside vehicle.0 vehicle.1) in omega arith)
+            (λ (vehicle : (t : ℕ) × (t < length r) × (slice_index r t ≡ i)). let fell : slice_index a' i + by ≡ slice_index a i =
+            rw vehicle.2 at (fall.inside vehicle.0 vehicle.1) in omega arith)
             (λ outside. let same : slice_index a' i ≡ slice_index a i = fall.outside i outside in omega arith)
             (vehicle_cases i hi);
         light = priced.prices.light;
@@ -147,7 +154,8 @@ module _ {n m : ℕ} {w : ℕ → ℕ → ℕ} {k : ℕ} {a b q p r c parent pla
           let out : (s : ℕ) → 0 < s → s < length c → slice_index c s ≢ j = λ s ps hs e.
           let hr : s < length r = rw grown.tree.c_length at hs in
           let partner : slice_index q (slice_index r s) ≡ j = grown.tree.partner s ps hr ∙ e in
-          let own : slice_index p j ≡ slice_index r s = ap (slice_index p) (sym partner) ∙ priced.forth (slice_index r s) (grown.tree.vehicle s hr) (rw partner hj) in
+          let own : slice_index p j ≡ slice_index r s = ap (slice_index p) (sym partner) ∙ priced.forth (slice_index r s) (grown.tree.vehicle s hr)
+          (rw partner hj) in
           absurd (omega (arith, grown.tree.vehicle s hr)) in
           rise.outside j out ∙ priced.free_rider j hj ne free;
       free_vehicle = λ i hi lt free. unmatched_outside i hi (λ e. absurd (omega arith)) free ∙ priced.free_vehicle i hi lt free;

@@ -1,7 +1,27 @@
 -- The names that the proofs of this crate cite from elsewhere, passed on from one place. Declares nothing.
 pub use Rattle.std.proofs.lemmas.Result.{IfOk-weaker, err_from_is_err_and}
 pub use Rattle.std.proofs.lemmas.Bool.{and_from, and_parts, both_ways, cases_eq, cases_lt, cond-true, cond_both, eqb-false}
-pub use Rattle.std.proofs.lemmas.List.{append_cancel_left, at_drop_more, drop_all, drop_more, get_or-append_right, get_or-map, get_or-replicate, get_or_append_left, get_or_default, get_or_past, get_or_push, length-map, length-replicate, length_push, map-append, map_push, nil_from_length, take_more, with_items_is}
+pub use Rattle.std.proofs.lemmas.List.{
+  append_cancel_left,
+  at_drop_more,
+  drop_all,
+  drop_more,
+  get_or-append_right,
+  get_or-map,
+  get_or-replicate,
+  get_or_append_left,
+  get_or_default,
+  get_or_past,
+  get_or_push,
+  length-map,
+  length-replicate,
+  length_push,
+  map-append,
+  map_push,
+  nil_from_length,
+  take_more,
+  with_items_is,
+}
 pub use Rattle.std.proofs.lemmas.List.Elements.{All-append, All-cons, All-contains, All-from_get_or, All-head, All-map, All-push, All-tail, filter_passes}
 pub use Rattle.std.proofs.lemmas.List.Sums.{position_or_len_is, prefix_len-le-length}
 pub use Rattle.std.proofs.lemmas.Option.{slice_get-get_or, slice_get-map}
@@ -28,12 +48,42 @@ unfoldable pub use Rattle.dispatch_report.specs.Words.{numbered, signed}
 pub use Rattle.dispatch_report.specs.Words.{spaced}
 pub use Rattle.pool_io.specs.Faults.{one_more}
 pub use Rattle.report_audit.specs.report.Fault.{FailsAsLine, FailsAt, HasFault, IsCut, IsOutOfForm, IsWrongBatch, IsWrongBlock, IsWrongLine}
-pub use Rattle.report_audit.specs.report.Place.{AreAtEnd, BeginsRound, Extent, IsInForm, IsRightUpTo, MayComeNext, MayFollow, position_behind, rounds_so_far, state_behind}
+pub use Rattle.report_audit.specs.report.Place.{
+  AreAtEnd,
+  BeginsRound,
+  Extent,
+  IsInForm,
+  IsRightUpTo,
+  MayComeNext,
+  MayFollow,
+  position_behind,
+  rounds_so_far,
+  state_behind,
+}
 pub use Rattle.report_audit.specs.report.Report.{IsAudited, IsReportOfRun, batches_after, closes, rounds_text}
 pub use Rattle.report_audit.specs.report.Types.{AreTold, HasFittingBlock, IsTold, JournalsAreTold}
 pub use Rattle.report_audit.specs.declared.report.fault.AuditFault.{AuditFault}
 pub use Rattle.report_audit.specs.work.report.Place.{entries_text, with_entry, with_more}
-pub use Rattle.report_audit.specs.work.report.Standing.{BlockRefuses, EntryRead, IsBetween, IsBookOf, IsFaultAt, IsGiven, IsInRound, IsOpen, IsOtherLine, IsRoundStart, IsWithin, OnlyFollows, TakesClose, TakesCommand, Waits, close_line, fault_of_head, line_left}
+pub use Rattle.report_audit.specs.work.report.Standing.{
+  BlockRefuses,
+  EntryRead,
+  IsBetween,
+  IsBookOf,
+  IsFaultAt,
+  IsGiven,
+  IsInRound,
+  IsOpen,
+  IsOtherLine,
+  IsRoundStart,
+  IsWithin,
+  OnlyFollows,
+  TakesClose,
+  TakesCommand,
+  Waits,
+  close_line,
+  fault_of_head,
+  line_left,
+}
 pub use Rattle.report_audit.specs.lines.Cut.{is_one_line}
 pub use Rattle.report_audit.specs.lines.Head.{BeginsWithHead}
 pub use Rattle.report_audit.specs.lines.HeadFault.{FitsLine, HasForm, HeadFails, HeadLine, LineFails, LinesFail, head_lines, sizes_of}
@@ -70,7 +120,19 @@ pub use Rattle.rider_limits.specs.declared.settings.Settings.{Settings}
 pub use Rattle.road_network.specs.Roads.{Roads, index_in}
 pub use Rattle.input_rows.specs.script.Round.{IsRound, MayStand, NumberedLanes, lane_at}
 pub use Rattle.dispatch_engine.specs.lanes.Locked.{sealed_by, snapshot_before}
-pub use Rattle.report_audit.specs.block.Judged.{CanBeTold, HasTrips, NamesRow, at_most, judged_outcome, judged_plan, late_of, node_of, number_among, row_of, trip_of}
+pub use Rattle.report_audit.specs.block.Judged.{
+  CanBeTold,
+  HasTrips,
+  NamesRow,
+  at_most,
+  judged_outcome,
+  judged_plan,
+  late_of,
+  node_of,
+  number_among,
+  row_of,
+  trip_of,
+}
 pub use Rattle.report_audit.specs.block.BlockLists.{BlockLists, nothing_told, told_by, with_line}
 pub use Rattle.report_audit.specs.work.block.Judged.{HoldUpTo, stops_of}
 pub use Rattle.report_audit.specs.work.block.BlockLists.{told_in}
@@ -99,7 +161,18 @@ pub use Rattle.report_audit.specs.lines.BlockLine.{AreIds, FitsStop, IsBlockLine
 pub use Rattle.report_audit.specs.lines.Reading.{BeginsWith, BeginsWithNone, BothAre, both_texts, ends_number}
 pub use Rattle.report_audit.specs.declared.lines.head.SettingsText.{SettingsText}
 pub use Rattle.report_audit.specs.work.lines.Head.{HasHead, IsShortNumber, LinesThen, dwell_text, fleet_line, told_lines, told_of}
-pub use Rattle.report_audit.specs.work.lines.Entries.{IsAnswered, IsAnyReply, IsTextOf, IsToldBy, IsToldByAny, fields_of, replies, spaced_reply, told_text, word_replies}
+pub use Rattle.report_audit.specs.work.lines.Entries.{
+  IsAnswered,
+  IsAnyReply,
+  IsTextOf,
+  IsToldBy,
+  IsToldByAny,
+  fields_of,
+  replies,
+  spaced_reply,
+  told_text,
+  word_replies,
+}
 pub use Rattle.report_audit.specs.work.lines.Lines.{IsOrder, IsVisit, order_text, visit_text}
 pub use Rattle.request_book.specs.declared.values.outcome.PlannedStop.{PlannedStop}
 pub use Rattle.assignment_search.specs.Found.{IsBestNear, IsClose, IsFair, IsFairNode, IsJustified, ShowsBound}

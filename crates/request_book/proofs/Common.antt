@@ -50,8 +50,36 @@ pub use Rattle.request_book.specs.declared.values.rider.Status.{Status}
 pub use Rattle.request_book.specs.declared.values.rider.Status.TheVariants.{Aboard, Delivered, Expired, Promised, Waiting}
 pub use Rattle.request_book.specs.declared.values.state.State.{State}
 unfoldable pub use Rattle.request_book.specs.lemmas.register.Refusals.{first_of}
-pub use Rattle.request_book.specs.lemmas.register.Refusals.{aboard_refusal, book_full, duplicate_rider, ended_refusal, has_ended, is_aboard, not_aboard, not_promised, not_this_batch, pool_full, promise_refusal, same_place, seat_refusal, time_back, unknown_node, unknown_rider, unknown_vehicle, vehicle_full}
-unfoldable pub use Rattle.request_book.specs.lemmas.register.Table.{cancel_step, close_step, dropoff_step, pickup_step, report_step, seal_step, submit_step, table_step}
+pub use Rattle.request_book.specs.lemmas.register.Refusals.{
+  aboard_refusal,
+  book_full,
+  duplicate_rider,
+  ended_refusal,
+  has_ended,
+  is_aboard,
+  not_aboard,
+  not_promised,
+  not_this_batch,
+  pool_full,
+  promise_refusal,
+  same_place,
+  seat_refusal,
+  time_back,
+  unknown_node,
+  unknown_rider,
+  unknown_vehicle,
+  vehicle_full,
+}
+unfoldable pub use Rattle.request_book.specs.lemmas.register.Table.{
+  cancel_step,
+  close_step,
+  dropoff_step,
+  pickup_step,
+  report_step,
+  seal_step,
+  submit_step,
+  table_step,
+}
 pub use Rattle.request_book.specs.lemmas.register.Table.{answer, batch_unless, dropped_off, picked_up, seal_refusal, submit_refusal}
 unfoldable pub use Rattle.request_book.specs.work.register.Closing.{promised_in_turn}
 pub use Rattle.request_book.specs.work.register.Closing.{is_waiting, takes_promise, waits_again}

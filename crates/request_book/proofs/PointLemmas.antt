@@ -12,7 +12,8 @@ pub rising_between : (xs : List ℕ) → IsStrictlyIncreasing xs → (i j : ℕ)
 rising_between xs up i j le within = grind (arith, AllPairs-from_increasing xs up i j 0)
 
 -- what a search of rising numbers finds, and what it means that it finds nothing
-pub found_place : (xs : List ℕ) (x : ℕ) (r : Result ℕ ℕ) → IsBinarySearchResult (λ y. nat_cmp y x) xs r → IsStrictlyIncreasing xs → MatchResult r (λ i. slice_get xs i ≡ Some x) (λ _. Contains xs x → ⊥)
+pub found_place : (xs : List ℕ) (x : ℕ) (r : Result ℕ ℕ) → IsBinarySearchResult (λ y. nat_cmp y x) xs r → IsStrictlyIncreasing xs →
+    MatchResult r (λ i. slice_get xs i ≡ Some x) (λ _. Contains xs x → ⊥)
 found_place xs x (Ok i) h up =
     let is = searched xs x (Ok i) h (rising_between xs up) in
     slice_get-get_or xs i 0 is.0 ∙ ap Some is.1

@@ -31,12 +31,66 @@ pub use Rattle.ridepool.specs.CallView.{IsSilent, CallView, Sources, source_at}
 pub use Rattle.ridepool.specs.Status.{HidesNoMemory}
 pub use Rattle.ridepool.specs.declared.inputs.ReadInputs.{ReadInputs}
 pub use Rattle.ridepool.specs.declared.status.RunStatus.{RunStatus}
-pub use Rattle.ridepool.specs.declared.status.RunStatus.TheVariants.{Day, Done, Fleet, Network, OutOfMemory, ReadFault, Report, Script, TooLate, TooLong, Words, WriteFault}
+pub use Rattle.ridepool.specs.declared.status.RunStatus.TheVariants.{
+  Day,
+  Done,
+  Fleet,
+  Network,
+  OutOfMemory,
+  ReadFault,
+  Report,
+  Script,
+  TooLate,
+  TooLong,
+  Words,
+  WriteFault,
+}
 pub use Rattle.ridepool.specs.work.Auditing.{IsAuditFault, IsSameSink, RefusesBytes, WritesYes}
 pub use Rattle.ridepool.specs.work.Ended.{IsLimited, IsNoReport, IsRunReport}
 pub use Rattle.ridepool.specs.work.Held.{HoldsRound, HoldsRounds}
-pub use Rattle.ridepool.specs.work.Reading.{AreInputs, GotInputs, IsNoInput, IsReadAsNoDay, IsUnread, ReadSources, RefusesFleet, RefusesNetwork, RefusesRounds, StopsAt, inputs_got}
-pub use Rattle.ridepool.specs.work.Writing.{AreAllRoundsWith, AreFirstRounds, BeginsRounds, EndsRounds, HasPut, IsDayFor, IsReportFault, IsReportWhole, IsRoundFault, IsTextFault, IsUnput, IsWritingFault, NextJournal, PutsRound, RunsAll, RunsFirst, RunsFrom, StopsIn, WritesRound, added_by, added_text, day_ending, first_text, head_of, late_status, made_of, rounds_text, status_of}
+pub use Rattle.ridepool.specs.work.Reading.{
+  AreInputs,
+  GotInputs,
+  IsNoInput,
+  IsReadAsNoDay,
+  IsUnread,
+  ReadSources,
+  RefusesFleet,
+  RefusesNetwork,
+  RefusesRounds,
+  StopsAt,
+  inputs_got,
+}
+pub use Rattle.ridepool.specs.work.Writing.{
+  AreAllRoundsWith,
+  AreFirstRounds,
+  BeginsRounds,
+  EndsRounds,
+  HasPut,
+  IsDayFor,
+  IsReportFault,
+  IsReportWhole,
+  IsRoundFault,
+  IsTextFault,
+  IsUnput,
+  IsWritingFault,
+  NextJournal,
+  PutsRound,
+  RunsAll,
+  RunsFirst,
+  RunsFrom,
+  StopsIn,
+  WritesRound,
+  added_by,
+  added_text,
+  day_ending,
+  first_text,
+  head_of,
+  late_status,
+  made_of,
+  rounds_text,
+  status_of,
+}
 pub use Rattle.rider_limits.specs.Words.{fault_of}
 pub use Rattle.rider_limits.specs.declared.load_shape.LoadShape.{LoadShape}
 pub use Rattle.rider_limits.specs.declared.settings.Mode.{Mode}

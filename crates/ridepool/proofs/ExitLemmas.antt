@@ -1,6 +1,87 @@
 -- How the parts of a call explain its end.
 use Rattle.std.proofs.Common.{◌≡◌, ℕ, List, Option, Some, Ok, Err, length, refl, sym, ap, subst, inl, inr, ⊎_elim, arith, ◌⊎◌, MatchOption}
-use Rattle.ridepool.proofs.Common.{texts_of, Which, AppendsPart, Audited, fault_of, LoadShape, Mode, Run, Load, Drive, Audit, Settings, DayFault, AnswersAudit, Confirms, EndsAudit, yes_text, AnswersDrive, EndsDrive, Inputs, AreGood, AreReadFrom, AreUntouched, CameTo, IsStop, IsWithin, Reads, StopsOrReads, AnswersLoad, AreTexts, EndsText, AnswersRun, RunsScript, RunsSome, Change, SinkView, IsUntouched, SourceView, Sources, CallView, IsSilent, source_at, ReadInputs, RunStatus, Done, Words, Network, Fleet, Script, TooLong, ReadFault, WriteFault, OutOfMemory, Day, TooLate, Report, IsSameSink, RefusesBytes, WritesYes, IsAuditFault, IsLimited, IsRunReport, HidesNoMemory, AreInputs, IsUnread, IsNoInput, IsReadAsNoDay, GotInputs, inputs_got, AreAllRoundsWith, AreFirstRounds, IsDayFor, IsReportFault, IsReportWhole, IsTextFault, IsWritingFault, added_by, added_text, first_text, head_of}
+use Rattle.ridepool.proofs.Common.{
+  texts_of,
+  Which,
+  AppendsPart,
+  Audited,
+  fault_of,
+  LoadShape,
+  Mode,
+  Run,
+  Load,
+  Drive,
+  Audit,
+  Settings,
+  DayFault,
+  AnswersAudit,
+  Confirms,
+  EndsAudit,
+  yes_text,
+  AnswersDrive,
+  EndsDrive,
+  Inputs,
+  AreGood,
+  AreReadFrom,
+  AreUntouched,
+  CameTo,
+  IsStop,
+  IsWithin,
+  Reads,
+  StopsOrReads,
+  AnswersLoad,
+  AreTexts,
+  EndsText,
+  AnswersRun,
+  RunsScript,
+  RunsSome,
+  Change,
+  SinkView,
+  IsUntouched,
+  SourceView,
+  Sources,
+  CallView,
+  IsSilent,
+  source_at,
+  ReadInputs,
+  RunStatus,
+  Done,
+  Words,
+  Network,
+  Fleet,
+  Script,
+  TooLong,
+  ReadFault,
+  WriteFault,
+  OutOfMemory,
+  Day,
+  TooLate,
+  Report,
+  IsSameSink,
+  RefusesBytes,
+  WritesYes,
+  IsAuditFault,
+  IsLimited,
+  IsRunReport,
+  HidesNoMemory,
+  AreInputs,
+  IsUnread,
+  IsNoInput,
+  IsReadAsNoDay,
+  GotInputs,
+  inputs_got,
+  AreAllRoundsWith,
+  AreFirstRounds,
+  IsDayFor,
+  IsReportFault,
+  IsReportWhole,
+  IsTextFault,
+  IsWritingFault,
+  added_by,
+  added_text,
+  first_text,
+  head_of,
+}
 use Rattle.dispatch_report.specs.Head.{head_text}
 use Rattle.dispatch_report.specs.Round.{round_text}
 use Rattle.dispatch_report.specs.Summary.{load_text, summary_text}
@@ -49,7 +130,8 @@ others_within s file.Script file.Report came = inl (untouched_within file.Report
 others_within s file.Report v came = absurd came
 
 -- where the one it came to is within its limit, or its excess is the answer, all are
-limited_but : (s : Sources) (w v : Which) (e : RunStatus) → IsWithin w (source_at s w) ⊎ (e ≡ TooLong w) → IsWithin v (source_at s v) ⊎ (v ≡ w) → IsWithin v (source_at s v) ⊎ (e ≡ TooLong v)
+limited_but : (s : Sources) (w v : Which) (e : RunStatus) → IsWithin w (source_at s w) ⊎ (e ≡ TooLong w) → IsWithin v (source_at s v) ⊎ (v ≡ w) →
+    IsWithin v (source_at s v) ⊎ (e ≡ TooLong v)
 limited_but s w v e report (inl within) = inl within
 limited_but s w v e report (inr is) = subst (λ x. IsWithin x (source_at s x) ⊎ (e ≡ TooLong x)) (sym is) report
 
@@ -73,7 +155,9 @@ untouched_report : (s : Sources) (e : RunStatus) → IsUntouched s.report → Is
 untouched_report s e report = inl (untouched_within file.Report s.report report)
 
 -- what a call answers, by its command
-run_answers : (settings : Settings) (seen : CallView) (e : RunStatus) → StopsOrReads settings seen e (λ i. IsUntouched seen.sources.report × EndsText i.settings i.roads (λ r. round_text r.number i.settings.proof r.journal) (head_text i.settings i.roads (length i.vehicles)) (RunsSome i) (RunsScript i) seen e)
+run_answers : (settings : Settings) (seen : CallView) (e : RunStatus) → StopsOrReads settings seen e
+    (λ i. IsUntouched seen.sources.report × EndsText i.settings i.roads (λ r. round_text r.number i.settings.proof r.journal)
+    (head_text i.settings i.roads (length i.vehicles)) (RunsSome i) (RunsScript i) seen e)
     → AnswersRun settings seen e
 run_answers settings seen e why =
     record {
@@ -81,7 +165,8 @@ run_answers settings seen e why =
       complete = λ i told whole. ⊎_elim (λ stop. inr (stops seen.sources i e told stop.0)) (λ r. text_ends _ _ _ _ _ _ seen e whole r.3.1) why;
     }
 
-drive_answers : (settings : Settings) (seen : CallView) (e : RunStatus) → StopsOrReads settings seen e (λ i. IsUntouched seen.sources.report × EndsDrive i seen e) → AnswersDrive settings seen e
+drive_answers : (settings : Settings) (seen : CallView) (e : RunStatus) → StopsOrReads settings seen e
+    (λ i. IsUntouched seen.sources.report × EndsDrive i seen e) → AnswersDrive settings seen e
 drive_answers settings seen e why =
     record {
       explained = why;
@@ -106,7 +191,8 @@ load_answers shape settings seen e untouched why =
 -- what a call's answer says, by its words
 abbrev AnswersWords : CallView → RunStatus → Option WordFault → Type 0
 AnswersWords seen e fault =
-    MatchOption fault ((settings : Settings) × AreGiven seen.words settings × AnswersAs settings.mode settings seen e) (λ f. (e ≡ Words f) × AreUntouched seen.sources × IsSilent seen)
+    MatchOption fault ((settings : Settings) × AreGiven seen.words settings × AnswersAs settings.mode settings seen e)
+    (λ f. (e ≡ Words f) × AreUntouched seen.sources × IsSilent seen)
 
 answer : (seen : CallView) (e : RunStatus) → AnswersWords seen e (fault_of seen.words) → HidesNoMemory e → IsLimited seen.sources e → Answers seen e
 answer seen e answered hides limited =
@@ -116,21 +202,32 @@ answer seen e answered hides limited =
       refused = hides;
     }
 
-good_answer : (seen : CallView) (settings : Settings) (e : RunStatus) → AreGood seen.words settings → AnswersAs settings.mode settings seen e → HidesNoMemory e → IsLimited seen.sources e → Answers seen e
-good_answer seen settings e good answers hides limited = answer seen e (subst (AnswersWords seen e) (sym good.faultless) (settings, good.given, answers)) hides limited
+good_answer : (seen : CallView) (settings : Settings) (e : RunStatus) → AreGood seen.words settings → AnswersAs settings.mode settings seen e →
+    HidesNoMemory e → IsLimited seen.sources e → Answers seen e
+good_answer seen settings e good answers hides limited = answer seen e (subst (AnswersWords seen e) (sym good.faultless) (settings, good.given, answers)) hides
+    limited
 
 -- words that are refused
-pub words_answer : (seen : CallView) (fault : WordFault) → fault_of seen.words ≡ Some fault → AreUntouched seen.sources → IsSilent seen → Answers seen (Words fault)
+pub words_answer : (seen : CallView) (fault : WordFault) → fault_of seen.words ≡ Some fault → AreUntouched seen.sources → IsSilent seen →
+    Answers seen (Words fault)
 words_answer seen fault why sources out =
     answer seen (Words fault) (subst (AnswersWords seen (Words fault)) (sym why) (refl, sources, out)) tt (λ w. inl (all_within seen.sources sources w))
 
 -- inputs that aren't there
-no_day : (seen : CallView) (settings : Settings) (fault : DayFault) → IsReadAsNoDay seen.sources fault → IsUntouched seen.sources.report → IsSilent seen → AnswersDrive settings seen (Day fault)
+no_day : (seen : CallView) (settings : Settings) (fault : DayFault) → IsReadAsNoDay seen.sources fault → IsUntouched seen.sources.report → IsSilent seen →
+    AnswersDrive settings seen (Day fault)
 no_day seen settings fault (i, read, refused) report out =
     drive_answers settings seen (Day fault)
-    (inr (record { settings = settings; roads = i.roads; vehicles = i.vehicles; rounds = i.rounds }, refl, record { network = read.network; fleet = read.fleet; script = read.script }, (report, EndsDrive.no_day fault refused out)))
+    (inr (
+      record { settings = settings; roads = i.roads; vehicles = i.vehicles; rounds = i.rounds },
+      refl,
+      record
+          { network = read.network; fleet = read.fleet; script = read.script },
+      (report, EndsDrive.no_day fault refused out),
+    ))
 
-no_input : (seen : CallView) (settings : Settings) (e : RunStatus) (m : Mode) → IsNoInput m seen.sources e → IsUntouched seen.sources.report → IsSilent seen → AnswersAs m settings seen e
+no_input : (seen : CallView) (settings : Settings) (e : RunStatus) (m : Mode) → IsNoInput m seen.sources e → IsUntouched seen.sources.report → IsSilent seen →
+    AnswersAs m settings seen e
 no_input seen settings e Run why report out = run_answers settings seen e (inl (why, out))
 no_input seen settings e Audit why report out = audit_answers settings seen e (inl (why, out))
 no_input seen settings e Drive (inl why) report out = drive_answers settings seen e (inl (why, out))
@@ -139,13 +236,16 @@ no_input seen settings e (Load shape) (untouched, is) report out = load_answers 
 
 no_input_limited : (s : Sources) (e : RunStatus) (m : Mode) → IsNoInput m s e → IsUntouched s.report → IsLimited s e
 no_input_limited s e Drive (inl why) report = stop_limited s e why
-no_input_limited s e Drive (inr (fault, is, (i, read, refused))) report = λ w. limited_but s file.Report w e (untouched_report s e report) (read_within s i read w)
+no_input_limited s e Drive (inr (fault, is, (i, read, refused))) report = λ w. limited_but s file.Report w e (untouched_report s e report)
+    (read_within s i read w)
 no_input_limited s e (Load shape) (untouched, is) report = λ w. inl (all_within s untouched w)
 no_input_limited s e _ why report = stop_limited s e why
 
-pub input_answer : (seen : CallView) (settings : Settings) (e : RunStatus) → AreGood seen.words settings → GotInputs settings seen.sources (Err e) → IsUntouched seen.sources.report → IsSilent seen → Answers seen e
+pub input_answer : (seen : CallView) (settings : Settings) (e : RunStatus) → AreGood seen.words settings → GotInputs settings seen.sources (Err e) →
+    IsUntouched seen.sources.report → IsSilent seen → Answers seen e
 input_answer seen settings e good got report out =
-    good_answer seen settings e good (no_input seen settings e settings.mode got.inputs report out) got.refused (no_input_limited seen.sources e settings.mode got.inputs report)
+    good_answer seen settings e good (no_input seen settings e settings.mode got.inputs report out) got.refused
+    (no_input_limited seen.sources e settings.mode got.inputs report)
 
 -- a sink with the same bytes and faults is untouched
 same_sink : (c : Change SinkView) → c.after.written ≡ c.before.written → c.after.faults ≡ c.before.faults → IsUntouched c
@@ -153,7 +253,8 @@ same_sink c bytes faults = grind (arith, bytes, faults)
 
 -- a text that is written, or a beginning of it
 text_answers : (m : Mode) (seen : CallView) (i : Inputs) (e : RunStatus) → (m ≡ Audit → ⊥) → AreInputs m seen.sources i → IsUntouched seen.sources.report
-    → EndsText i.settings i.roads (added_text m i.settings.proof) (first_text m i.settings i.roads (length i.vehicles)) (AreFirstRounds m i) (AreAllRoundsWith m i) seen e → AnswersAs m i.settings seen e
+    → EndsText i.settings i.roads (added_text m i.settings.proof) (first_text m i.settings i.roads (length i.vehicles)) (AreFirstRounds m i)
+    (AreAllRoundsWith m i) seen e → AnswersAs m i.settings seen e
 text_answers Run seen i e prints inputs report ends = run_answers i.settings seen e (inr (i, refl, inputs.0, (report, ends)))
 text_answers Drive seen i e prints inputs report ends = drive_answers i.settings seen e (inr (i, refl, inputs.0, (report, EndsDrive.driven e inputs.1 ends)))
 text_answers (Load shape) seen i e prints inputs report ends = load_answers shape i.settings seen e inputs.1 (inr (i, refl, inputs.0, ends))
@@ -165,7 +266,8 @@ module _ (seen : CallView) (settings : Settings) (got : ReadInputs) (good : AreG
   i = inputs_got settings got
 
   text_answer : (e : RunStatus) → HidesNoMemory e
-      → EndsText i.settings i.roads (added_by i.settings) (head_of i) (AreFirstRounds i.settings.mode i) (AreAllRoundsWith i.settings.mode i) seen e → Answers seen e
+      → EndsText i.settings i.roads (added_by i.settings) (head_of i) (AreFirstRounds i.settings.mode i) (AreAllRoundsWith i.settings.mode i) seen e →
+      Answers seen e
   text_answer e hides ends =
       good_answer seen settings e good (text_answers settings.mode seen i e prints inputs.inputs report ends) hides
       (inputs_limited settings.mode seen.sources i e inputs.inputs (untouched_report seen.sources e report))
@@ -173,7 +275,8 @@ module _ (seen : CallView) (settings : Settings) (got : ReadInputs) (good : AreG
   pub done_answer : IsReportWhole i seen.out.before.written seen.out.after.written seen.notifiers.before seen.notifiers.after → Answers seen Done
   done_answer written = text_answer Done tt (EndsText.written written)
 
-  pub written_answer : (e : RunStatus) → IsWritingFault i seen.out.before.written seen.out.after.written seen.notifiers.before seen.notifiers.after seen.out.before.faults seen.out.after.faults e → Answers seen e
+  pub written_answer : (e : RunStatus) → IsWritingFault i seen.out.before.written seen.out.after.written seen.notifiers.before seen.notifiers.after
+      seen.out.before.faults seen.out.after.faults e → Answers seen e
   written_answer _ (IsWritingFault.unwritten _ (IsReportFault.failed rose short)) = text_answer WriteFault tt (EndsText.failed rose short)
   written_answer _ (IsWritingFault.unwritten _ (IsReportFault.unstored part)) = text_answer OutOfMemory tt (EndsText.unstored part)
   written_answer _ (IsWritingFault.late round made driven late bytes faults told) =
@@ -201,7 +304,8 @@ module _ (seen : CallView) (settings : Settings) (got : ReadInputs) (good : AreG
 
   of_audit : (e : RunStatus) → EndsAudit (inputs_got settings got) seen e → HidesNoMemory e → IsReportLimited seen.sources e → Answers seen e
   of_audit e ends hides report =
-      good_answer seen settings e good (subst (λ m. AnswersAs m settings seen e) (sym is) (audit_answers settings seen e (inr (inputs_got settings got, refl, read, ends)))) hides
+      good_answer seen settings e good (subst (λ m. AnswersAs m settings seen e) (sym is) (audit_answers settings seen e
+      (inr (inputs_got settings got, refl, read, ends)))) hides
       (λ w. limited_but seen.sources file.Report w e report (read_within seen.sources (inputs_got settings got) read w))
 
   silent : IsSameSink seen.out.before.written seen.out.after.written seen.out.before.faults seen.out.after.faults → IsSilent seen
@@ -217,22 +321,29 @@ module _ (seen : CallView) (settings : Settings) (got : ReadInputs) (good : AreG
   unread_answer _ (IsUnread.failed within rose) quiet = of_audit _ (EndsAudit.unread within rose quiet) tt (inl within)
   unread_answer _ (IsUnread.memory within) quiet = of_audit _ (EndsAudit.unjudged within quiet) tt (inl within)
 
-  refused_answer : (e : RunStatus) (bytes : List ℕ) → Reads file.Report seen.sources.report (λ came. came ≡ bytes) → RefusesBytes (inputs_got settings got) bytes e → IsSilent seen → Answers seen e
+  refused_answer : (e : RunStatus) (bytes : List ℕ) → Reads file.Report seen.sources.report (λ came. came ≡ bytes) →
+      RefusesBytes (inputs_got settings got) bytes e → IsSilent seen → Answers seen e
   refused_answer (Report fault) bytes came why quiet =
-      of_audit (Report fault) (EndsAudit.refused fault (reads_as seen.sources.report bytes _ came why.1) quiet) why.0 (inl (reads_within seen.sources.report _ came))
-  refused_answer OutOfMemory bytes came why quiet = (let within = reads_within seen.sources.report _ came in of_audit OutOfMemory (EndsAudit.unjudged within quiet) tt (inl within))
+      of_audit (Report fault) (EndsAudit.refused fault (reads_as seen.sources.report bytes _ came why.1) quiet) why.0
+      (inl (reads_within seen.sources.report _ came))
+  refused_answer OutOfMemory bytes came why quiet = (let within = reads_within seen.sources.report _ came in of_audit OutOfMemory
+      (EndsAudit.unjudged within quiet) tt (inl within))
   refused_answer _ bytes came why quiet = absurd why
 
   begins : (audited : Audited) → Reads file.Report seen.sources.report (λ bytes. IsRunReport (inputs_got settings got) bytes audited)
-      → AppendsPart seen.out.before.written seen.out.after.written (yes_text audited) → Confirms (inputs_got settings got) seen (AppendsPart seen.out.before.written seen.out.after.written)
+      → AppendsPart seen.out.before.written seen.out.after.written (yes_text audited) → Confirms (inputs_got settings got) seen
+      (AppendsPart seen.out.before.written seen.out.after.written)
   begins audited came part = record { audited = audited; read = came; line = part; notifiers = told }
 
   unwritten_answer : (e : RunStatus) (audited : Audited) → Reads file.Report seen.sources.report (λ bytes. IsRunReport (inputs_got settings got) bytes audited)
       → IsTextFault (yes_text audited) seen.out.before.written seen.out.after.written seen.out.before.faults seen.out.after.faults e → Answers seen e
-  unwritten_answer _ audited came (IsTextFault.failed rose part) = of_audit WriteFault (EndsAudit.failed (begins audited came part) rose) tt (inl (reads_within seen.sources.report _ came))
-  unwritten_answer _ audited came (IsTextFault.unstored part) = of_audit OutOfMemory (EndsAudit.unstored (begins audited came part)) tt (inl (reads_within seen.sources.report _ came))
+  unwritten_answer _ audited came (IsTextFault.failed rose part) = of_audit WriteFault (EndsAudit.failed (begins audited came part) rose) tt
+      (inl (reads_within seen.sources.report _ came))
+  unwritten_answer _ audited came (IsTextFault.unstored part) = of_audit OutOfMemory (EndsAudit.unstored (begins audited came part)) tt
+      (inl (reads_within seen.sources.report _ came))
 
-  pub no_answer : (e : RunStatus) → IsAuditFault (inputs_got settings got) seen.sources.report seen.out.before.written seen.out.after.written seen.out.before.faults seen.out.after.faults e → Answers seen e
+  pub no_answer : (e : RunStatus) → IsAuditFault (inputs_got settings got) seen.sources.report seen.out.before.written seen.out.after.written
+      seen.out.before.faults seen.out.after.faults e → Answers seen e
   no_answer _ (IsAuditFault.unread e why same) = unread_answer e why (silent same)
   no_answer _ (IsAuditFault.refused e bytes came why same) = refused_answer e bytes came why (silent same)
   no_answer _ (IsAuditFault.unwritten e audited came why) = unwritten_answer e audited came why

@@ -1,6 +1,51 @@
 -- What is said of the inputs of a call, from what the readers say of sources and of made texts.
 use Rattle.std.proofs.Common.{◌≡◌, ℕ, List, Some, None, Result, Ok, Err, refl, sym, ap, subst, ◌∙◌, inl, inr, IfOk, IfErr}
-use Rattle.ridepool.proofs.Common.{Vehicle, texts_of, Which, Input, LoadShape, Run, Load, Drive, Audit, Settings, Roads, day_fault, DayFault, NumberedLanes, HidesNoMemory, AreUntouched, CameTo, IsStop, AreTexts, own_fault, in_rows, first_version, network_in, vehicles_in, IsFleetIn, script_in, Change, SourceView, Sources, source_at, ReadInputs, RunStatus, Network, Fleet, Script, OutOfMemory, Day, AreInputs, IsUnread, StopsAt, ReadSources, IsNoInput, GotInputs, inputs_got}
+use Rattle.ridepool.proofs.Common.{
+  Vehicle,
+  texts_of,
+  Which,
+  Input,
+  LoadShape,
+  Run,
+  Load,
+  Drive,
+  Audit,
+  Settings,
+  Roads,
+  day_fault,
+  DayFault,
+  NumberedLanes,
+  HidesNoMemory,
+  AreUntouched,
+  CameTo,
+  IsStop,
+  AreTexts,
+  own_fault,
+  in_rows,
+  first_version,
+  network_in,
+  vehicles_in,
+  IsFleetIn,
+  script_in,
+  Change,
+  SourceView,
+  Sources,
+  source_at,
+  ReadInputs,
+  RunStatus,
+  Network,
+  Fleet,
+  Script,
+  OutOfMemory,
+  Day,
+  AreInputs,
+  IsUnread,
+  StopsAt,
+  ReadSources,
+  IsNoInput,
+  GotInputs,
+  inputs_got,
+}
 use Rattle.input_rows.specs.fleet.Fleet.{vehicles_of}
 use Rattle.input_rows.specs.made.Accepted.{IsNetworkText, IsFleetText, IsScriptText, AreRead as TextsAreRead}
 use Rattle.road_network.specs.Reading.{network_of}
@@ -59,11 +104,13 @@ got_audit settings s (Ok got) is read =
     record { inputs = subst (λ m. AreInputs m s (inputs_got settings got)) (sym is) (read.inputs settings, tt); refused = tt }
 got_audit settings s (Err e) is read = record { inputs = subst (λ m. IsNoInput m s e) (sym is) read.inputs; refused = read.refused }
 
-pub got_day : (settings : Settings) (s : Sources) (got : ReadInputs) → settings.mode ≡ Drive → ReadSources s (Ok got) → day_fault got.script ≡ None → GotInputs settings s (Ok got)
+pub got_day : (settings : Settings) (s : Sources) (got : ReadInputs) → settings.mode ≡ Drive → ReadSources s (Ok got) → day_fault got.script ≡ None →
+    GotInputs settings s (Ok got)
 got_day settings s got is read day =
     record { inputs = subst (λ m. AreInputs m s (inputs_got settings got)) (sym is) (read.inputs settings, day); refused = tt }
 
-pub got_no_day : (settings : Settings) (s : Sources) (got : ReadInputs) (fault : DayFault) → settings.mode ≡ Drive → ReadSources s (Ok got) → day_fault got.script ≡ Some fault
+pub got_no_day : (settings : Settings) (s : Sources) (got : ReadInputs) (fault : DayFault) → settings.mode ≡ Drive → ReadSources s (Ok got) →
+    day_fault got.script ≡ Some fault
     → GotInputs settings s (Err (Day fault))
 got_no_day settings s got fault is read refused =
     record { inputs = subst (λ m. IsNoInput m s (Day fault)) (sym is) (inr (fault, refl, (_, read.inputs settings, refused))); refused = tt }

@@ -38,34 +38,48 @@ start-stops i seen start.ReadFault status is silent other rose = subst (EndsLive
 start-stops i seen start.OutOfMemory status is silent other rose = subst (EndsLive i seen) (sym is) (EndsLive.unstored (inl silent))
 
 -- a call whose head isn't written whole
-pub head-stops : (i : LiveInputs) (seen : LiveSeen) (version : ScriptVersion) (next : Option (List ℕ)) (fault : ReportFault) (status : RunStatus) → status ≡ status_of fault
+pub head-stops : (i : LiveInputs) (seen : LiveSeen) (version : ScriptVersion) (next : Option (List ℕ)) (fault : ReportFault) (status : RunStatus) →
+    status ≡ status_of fault
     → HasStarted seen.script next version → IsUntouched seen.notifiers → WritesText seen.out (live_head i) (Err fault) → EndsLive i seen status
 head-stops i seen version next report.WriteFault status is started untold wrote =
-    subst (EndsLive i seen) (sym is) (EndsLive.failed (inl (rows_to_come version 0 next, rows-of version seen.script next started, wrote.bytes, untold)) (wrote.fault refl))
+    subst (EndsLive i seen) (sym is) (EndsLive.failed (inl (rows_to_come version 0 next, rows-of version seen.script next started, wrote.bytes, untold))
+    (wrote.fault refl))
 head-stops i seen version next report.OutOfMemory status is started untold wrote =
-    subst (EndsLive i seen) (sym is) (EndsLive.unstored (inr (inl (rows_to_come version 0 next, rows-of version seen.script next started, wrote.bytes, untold))))
+    subst (EndsLive i seen) (sym is) (EndsLive.unstored
+    (inr (inl (rows_to_come version 0 next, rows-of version seen.script next started, wrote.bytes, untold))))
 
 -- a call whose rows were begun
 module _ (i : LiveInputs) (seen : LiveSeen) (version : ScriptVersion) (next : Option (List ℕ)) (book : BookView) (behind : SinkView) (reads : ℕ) where
   abbrev Rest : Change SinkView
   Rest = record { before = behind; after = seen.out.after }
 
-  head : {P : Option (List ScriptRow) → Change SinkView → Type 0} → HasStarted seen.script next version → Appends seen.out.before.written behind.written (live_head i)
+  head : {P : Option (List ScriptRow) → Change SinkView → Type 0} → HasStarted seen.script next version →
+      Appends seen.out.before.written behind.written (live_head i)
       → P (rows_to_come version 0 next) Rest → HasHead i seen P
-  head started wrote holds = record { rows = rows_to_come version 0 next; of_script = rows-of version seen.script next started; behind = behind; head = wrote; holds = holds }
+  head started wrote holds = record {
+    rows = rows_to_come version 0 next;
+    of_script = rows-of version seen.script next started;
+    behind = behind;
+    head =
+        wrote;
+    holds = holds;
+  }
 
   begun : book ≡ opened_book i → HasStarted seen.script next version → Appends seen.out.before.written behind.written (live_head i)
       → BeginsRows i.settings i.roads book (rows_to_come version 0 next) Rest seen.notifiers → BeginsLive i seen
-  begun is started wrote begins = inr (head started wrote (subst (λ (b : BookView). BeginsRows i.settings i.roads b (rows_to_come version 0 next) Rest seen.notifiers) is begins))
+  begun is started wrote begins = inr (head started wrote
+      (subst (λ (b : BookView). BeginsRows i.settings i.roads b (rows_to_come version 0 next) Rest seen.notifiers) is begins))
 
-  pub rows-end : (ended : Result (Unit {0}) LiveFault) (status : RunStatus) → status ≡ status_of_end ended → book ≡ opened_book i → HasStarted seen.script next version
+  pub rows-end : (ended : Result (Unit {0}) LiveFault) (status : RunStatus) → status ≡ status_of_end ended → book ≡ opened_book i →
+      HasStarted seen.script next version
       → Appends seen.out.before.written behind.written (live_head i) → seen.out.before.faults ≤ behind.faults → seen.reads.before ≤ reads
       → MatchResult ended (λ _. RunsRows i.settings i.roads book (rows_to_come version 0 next) Rest seen.notifiers)
       (λ _. BeginsRows i.settings i.roads book (rows_to_come version 0 next) Rest seen.notifiers)
       → (IsErrOf ended live.WriteFault → Rose behind.faults seen.out.after.faults) → (IsErrOf ended live.ReadFault → Rose reads seen.reads.after)
       → EndsLive i seen status
   rows-end (Ok done) status named is started wrote falls reads_fall runs write_fault read_fault =
-      subst (EndsLive i seen) (sym named) (EndsLive.done (head started wrote (subst (λ (b : BookView). RunsRows i.settings i.roads b (rows_to_come version 0 next) Rest seen.notifiers) is runs)))
+      subst (EndsLive i seen) (sym named) (EndsLive.done
+      (head started wrote (subst (λ (b : BookView). RunsRows i.settings i.roads b (rows_to_come version 0 next) Rest seen.notifiers) is runs)))
   rows-end (Err live.ReadFault) status named is started wrote falls reads_fall begins write_fault read_fault =
       subst (EndsLive i seen) (sym named) (EndsLive.unread (inr (begun is started wrote begins)) (omega (arith, reads_fall, read_fault refl)))
   rows-end (Err live.WriteFault) status named is started wrote falls reads_fall begins write_fault read_fault =
@@ -82,17 +96,24 @@ module _ (call : LiveCall) (silent : IsUnbegun call) where
 
   pub network-stops : (settings : Settings) (status : RunStatus) → AreGood (words_of_run call.words) settings → IsUntouched call.fleet
       → StopsAt call.network file.Network Network network_in status → ExplainsLive call status
-  network-stops settings _ good fleet (StopsAt.unread _ (IsUnread.long why)) = ExplainsLive.stopped _ (good.faultless, IsLiveStop.network_long why fleet, silent)
-  network-stops settings _ good fleet (StopsAt.unread _ (IsUnread.failed within rose)) = ExplainsLive.stopped _ (good.faultless, IsLiveStop.network_unread within rose fleet, silent)
+  network-stops settings _ good fleet (StopsAt.unread _ (IsUnread.long why)) = ExplainsLive.stopped _
+      (good.faultless, IsLiveStop.network_long why fleet, silent)
+  network-stops settings _ good fleet (StopsAt.unread _ (IsUnread.failed within rose)) = ExplainsLive.stopped _
+      (good.faultless, IsLiveStop.network_unread within rose fleet, silent)
   network-stops settings _ good fleet (StopsAt.unread _ (IsUnread.memory within)) = ExplainsLive.unstored silent
-  network-stops settings _ good fleet (StopsAt.refused fault reads hides) = ExplainsLive.stopped _ (good.faultless, IsLiveStop.network_refused fault reads fleet, silent)
+  network-stops settings _ good fleet (StopsAt.refused fault reads hides) = ExplainsLive.stopped _
+      (good.faultless, IsLiveStop.network_refused fault reads fleet, silent)
 
-  pub fleet-stops : (settings : Settings) (roads : Roads) (status : RunStatus) → AreGood (words_of_run call.words) settings → Reads file.Network call.network (λ bytes. network_in bytes ≡ Ok roads)
+  pub fleet-stops : (settings : Settings) (roads : Roads) (status : RunStatus) → AreGood (words_of_run call.words) settings →
+      Reads file.Network call.network (λ bytes. network_in bytes ≡ Ok roads)
       → StopsAt call.fleet file.Fleet Fleet (vehicles_in roads.nodes) status → ExplainsLive call status
-  fleet-stops settings roads _ good network (StopsAt.unread _ (IsUnread.long why)) = ExplainsLive.stopped _ (good.faultless, IsLiveStop.fleet_long (roads, network, why), silent)
-  fleet-stops settings roads _ good network (StopsAt.unread _ (IsUnread.failed within rose)) = ExplainsLive.stopped _ (good.faultless, IsLiveStop.fleet_unread (roads, network, (within, rose)), silent)
+  fleet-stops settings roads _ good network (StopsAt.unread _ (IsUnread.long why)) = ExplainsLive.stopped _
+      (good.faultless, IsLiveStop.fleet_long (roads, network, why), silent)
+  fleet-stops settings roads _ good network (StopsAt.unread _ (IsUnread.failed within rose)) =
+      ExplainsLive.stopped _ (good.faultless, IsLiveStop.fleet_unread (roads, network, (within, rose)), silent)
   fleet-stops settings roads _ good network (StopsAt.unread _ (IsUnread.memory within)) = ExplainsLive.unstored silent
-  fleet-stops settings roads _ good network (StopsAt.refused fault reads hides) = ExplainsLive.stopped _ (good.faultless, IsLiveStop.fleet_refused fault (roads, network, reads), silent)
+  fleet-stops settings roads _ good network (StopsAt.refused fault reads hides) = ExplainsLive.stopped _
+      (good.faultless, IsLiveStop.fleet_refused fault (roads, network, reads), silent)
 
 -- where nothing is wrong, a call is done or out of memory
 no-stop : (call : LiveCall) (status : RunStatus) → IsFaultlessLive call → IsLiveStop call.network call.fleet status → ⊥
@@ -101,7 +122,8 @@ no-stop call _ f (IsLiveStop.network_refused fault why fleet) =
 no-stop call _ f (IsLiveStop.network_long why fleet) = not_long file.Network call.network f.network_text f.network why
 no-stop call _ f (IsLiveStop.network_unread within rose fleet) = f.network.faultless rose
 no-stop call _ f (IsLiveStop.fleet_refused fault why) =
-    let same : why.0 ≡ f.inputs.roads = same_value (network_in f.network_text) why.0 f.inputs.roads (read_of call.network f.network_text (λ b. network_in b ≡ Ok why.0) f.network why.1) f.roads in
+    let same : why.0 ≡ f.inputs.roads = same_value (network_in f.network_text) why.0 f.inputs.roads
+    (read_of call.network f.network_text (λ b. network_in b ≡ Ok why.0) f.network why.1) f.roads in
     let refused = read_of call.fleet f.fleet_text (λ b. vehicles_in why.0.nodes b ≡ Err fault) f.fleet why.2 in
     let P : Roads → Type 0 = λ r. vehicles_in r.nodes f.fleet_text ≡ Err fault in
     ok_is_no_err (vehicles_in f.inputs.roads.nodes f.fleet_text) f.vehicles.vehicles fault f.vehicles.read (subst P same refused)
@@ -112,7 +134,8 @@ has-header : (script : Option (List ℕ)) (text : List ℕ) (rows : List ScriptR
 has-header script text rows why told header other =
     let P : Option (List ℕ) → Type 0 = λ s. HasNoHeader s why in ok_is_no_err (live_rows (lines_in text)) rows why header (subst P told other)
 
-no-end : (call : LiveCall) (i : LiveInputs) (status : RunStatus) → IsFaultlessLive call → (Rose call.rest.out.before.faults call.rest.out.after.faults → ⊥) → EndsLive i call.rest status
+no-end : (call : LiveCall) (i : LiveInputs) (status : RunStatus) → IsFaultlessLive call → (Rose call.rest.out.before.faults call.rest.out.after.faults → ⊥) →
+    EndsLive i call.rest status
     → (status ≡ Done) ⊎ (status ≡ OutOfMemory)
 no-end call i _ f writes (EndsLive.done runs) = inl refl
 no-end call i _ f writes (EndsLive.headless why other silent) = absurd (has-header call.rest.script f.text f.rows why f.told f.header other)
@@ -120,14 +143,17 @@ no-end call i _ f writes (EndsLive.unread begun rose) = absurd (f.faultless rose
 no-end call i _ f writes (EndsLive.failed begun rose) = absurd (writes rose)
 no-end call i _ f writes (EndsLive.unstored begun) = inr refl
 
-complete-live : (call : LiveCall) (status : RunStatus) → IsFaultlessLive call → (Rose call.rest.out.before.faults call.rest.out.after.faults → ⊥) → ExplainsLive call status
+complete-live : (call : LiveCall) (status : RunStatus) → IsFaultlessLive call → (Rose call.rest.out.before.faults call.rest.out.after.faults → ⊥) →
+    ExplainsLive call status
     → (status ≡ Done) ⊎ (status ≡ OutOfMemory)
-complete-live call _ f writes (ExplainsLive.refused fault why network fleet silent) = absurd (none_is_no_some (fault_of (words_of_run call.words)) fault f.words.faultless why)
+complete-live call _ f writes (ExplainsLive.refused fault why network fleet silent) = absurd
+    (none_is_no_some (fault_of (words_of_run call.words)) fault f.words.faultless why)
 complete-live call _ f writes (ExplainsLive.unstored silent) = inr refl
 complete-live call _ f writes (ExplainsLive.stopped status stop) = absurd (no-stop call status f stop.1)
 complete-live call _ f writes (ExplainsLive.ended status ends) = no-end call ends.0 status f writes ends.2
 
-pub answers-live : (call : LiveCall) (status : RunStatus) → ExplainsLive call status → AreLimited call.network call.fleet status → HidesNoMemory status → AnswersLive call status
+pub answers-live : (call : LiveCall) (status : RunStatus) → ExplainsLive call status → AreLimited call.network call.fleet status → HidesNoMemory status →
+    AnswersLive call status
 answers-live call status why limited hides =
     record {
       explained = why;
@@ -151,7 +177,8 @@ words-hide words (Report fault) why = absurd why
 words-hide words _ why = tt
 
 -- why a source stopped a call, and that no more than may be was taken from it
-pub stop-limited : {A E : Type 0} (s : Change SourceView) (w : Which) (refusal : Input E → RunStatus) (read : List ℕ → Result A (Input E)) (status : RunStatus) → StopsAt s w refusal read status
+pub stop-limited : {A E : Type 0} (s : Change SourceView) (w : Which) (refusal : Input E → RunStatus) (read : List ℕ → Result A (Input E)) (status : RunStatus)
+    → StopsAt s w refusal read status
     → IsWithin w s ⊎ (status ≡ TooLong w)
 stop-limited s w refusal read _ (StopsAt.unread _ (IsUnread.long why)) = inr refl
 stop-limited s w refusal read _ (StopsAt.unread _ (IsUnread.failed within rose)) = inl within
@@ -159,16 +186,21 @@ stop-limited s w refusal read _ (StopsAt.unread _ (IsUnread.memory within)) = in
 stop-limited s w refusal read _ (StopsAt.refused fault reads hides) = inl (reads_within s _ reads)
 
 -- the same, of the values that the calls name
-pub rows-ended : (i : LiveInputs) (script next came : Option (List ℕ)) (version known : ScriptVersion) (last : ℕ) (book : BookView) (before behind after : SinkView) (r0 r1 r2 r3 : ℕ) (n m : List NotifierView)
+pub rows-ended : (i : LiveInputs) (script next came : Option (List ℕ)) (version known : ScriptVersion) (last : ℕ) (book : BookView)
+    (before behind after : SinkView) (r0 r1 r2 r3 : ℕ) (n m : List NotifierView)
     (ended : Result (Unit {0}) LiveFault) (status : RunStatus) → status ≡ status_of_end ended → book ≡ opened_book i → HasStarted script next version
     → came ≡ next → known ≡ version → last ≡ 0 → Appends before.written behind.written (live_head i) → before.faults ≤ behind.faults → r0 ≤ r1
-    → MatchResult ended (λ _. RunsRows i.settings i.roads book (rows_to_come known last came) (record { before = behind; after = after }) (record { before = n; after = m }))
+    → MatchResult ended (λ _. RunsRows i.settings i.roads book (rows_to_come known last came) (record { before = behind; after = after })
+    (record { before = n; after = m }))
     (λ _. BeginsRows i.settings i.roads book (rows_to_come known last came) (record { before = behind; after = after }) (record { before = n; after = m }))
     → (IsErrOf ended live.WriteFault → Rose behind.faults after.faults) → (IsErrOf ended live.ReadFault → Rose r2 r3) → r2 ≡ r1
     → EndsLive i (live_seen script r0 r3 (record { before = before; after = after }) n m) status
-rows-ended i script next came version known last book before behind after r0 r1 r2 r3 n m ended status named is started came_is known_is last_is wrote falls reads_fall runs write_fault read_fault same =
+rows-ended i script next came version known last book before behind after r0 r1 r2 r3 n m ended status named is started came_is known_is last_is wrote falls
+    reads_fall runs write_fault read_fault same =
     let seen : LiveSeen = live_seen script r0 r3 (record { before = before; after = after }) n m in
     let rows : rows_to_come known last came ≡ rows_to_come version 0 next = (λ k. rows_to_come (known_is k) (last_is k) (came_is k)) in
-    let P : Option (List ScriptRow) → Type 0 = λ r. MatchResult ended (λ _. RunsRows i.settings i.roads book r (record { before = behind; after = after }) (record { before = n; after = m }))
+    let P : Option (List ScriptRow) → Type 0 = λ r. MatchResult ended (λ _. RunsRows i.settings i.roads book r (record { before = behind; after = after })
+    (record { before = n; after = m }))
     (λ _. BeginsRows i.settings i.roads book r (record { before = behind; after = after }) (record { before = n; after = m })) in
-    rows-end i seen version next book behind r2 ended status named is started wrote falls (omega (arith, reads_fall, same)) (subst P rows runs) write_fault read_fault
+    rows-end i seen version next book behind r2 ended status named is started wrote falls (omega (arith, reads_fall, same)) (subst P rows runs) write_fault
+    read_fault

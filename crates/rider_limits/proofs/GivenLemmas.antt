@@ -43,9 +43,21 @@ key_of-name Resume (Input Network) = refl
 key_of-name _ _ = refl
 
 -- a word of a key's name, `=` and a text gives that key and text, where the command has the key
-option_of-named : (command : Subcommand) (key : Key) (word text : List ℕ) → word ≡ (about key).name ++ 61 ∷ text → option_of command word ≡ option_map (λ k. (k, text)) (cond ((about key).has command) (Some key) None)
+option_of-named : (command : Subcommand) (key : Key) (word text : List ℕ) → word ≡ (about key).name ++ 61 ∷ text →
+    option_of command word ≡ option_map (λ k. (k, text)) (cond ((about key).has command) (Some key) None)
 unfolding option_of
-option_of-named command key word text is = search (rules, prefix_len-front, name_lacks_equals, length-append, lt-ltb, take_at, append_assoc, drop_at, length_push, key_of-name)
+option_of-named command key word text is = search (
+  rules,
+  prefix_len-front,
+  name_lacks_equals,
+  length-append,
+  lt-ltb,
+  take_at,
+  append_assoc,
+  drop_at,
+  length_push,
+  key_of-name,
+)
 
 -- a key and a text without a fault, where the command has the key
 has-faultless : (key : Key) (earlier : List (List ℕ)) (place : ℕ) (text : List ℕ) (has : Bool) → option_fault earlier place (option_map (λ k. (k, text)) (cond has (Some key) None)) ≡ None → accepts (about key).takes text ≡ true
@@ -58,16 +70,20 @@ faultless command key earlier place word text is none =
     has-faultless key earlier place text ((about key).has command) (subst (λ o. option_fault earlier place o ≡ None) (option_of-named command key word text is) none)
 
 -- a text that words give stands in the first of them that begins with the key
-text_given-at : (key : List ℕ) (words : List (List ℕ)) (text : List ℕ) → text_given key words ≡ Some text → (i : ℕ) × (i < length words) × (after_key key (get_or words i []) ≡ Some text)
+text_given-at : (key : List ℕ) (words : List (List ℕ)) (text : List ℕ) → text_given key words ≡ Some text →
+    (i : ℕ) × (i < length words) × (after_key key (get_or words i []) ≡ Some text)
 text_given-at key [] text given = absurd (let e : None ≡ Some text = given in cc)
 text_given-at key (word ∷ words) text given = by_first (λ given. text_given-at key words text given) (after_key key word) refl given
   where
-    by_first : (text_given key words ≡ Some text → (i : ℕ) × (i < length words) × (after_key key (get_or words i []) ≡ Some text)) → (o : Option (List ℕ)) → after_key key word ≡ o → option_or o (text_given key words) ≡ Some text → (i : ℕ) × (i < length (word ∷ words)) × (after_key key (get_or (word ∷ words) i []) ≡ Some text)
+    by_first : (text_given key words ≡ Some text → (i : ℕ) × (i < length words) × (after_key key (get_or words i []) ≡ Some text)) → (o : Option (List ℕ)) →
+        after_key key word ≡ o → option_or o (text_given key words) ≡ Some text → (i : ℕ) × (i < length (word ∷ words)) ×
+        (after_key key (get_or (word ∷ words) i []) ≡ Some text)
     by_first later None here given = (let rest = later given in (suc rest.0, omega (arith, rest.1), rest.2))
     by_first later (Some t) here given = (0, omega arith, here ∙ given)
 
 -- words without a fault give each key a text that it takes
-given_is_accepted : (command : Subcommand) (key : Key) (words : List (List ℕ)) (text : List ℕ) → words_fault command words ≡ None → text_given (about key).name words ≡ Some text → accepts (about key).takes text ≡ true
+given_is_accepted : (command : Subcommand) (key : Key) (words : List (List ℕ)) (text : List ℕ) → words_fault command words ≡ None →
+    text_given (about key).name words ≡ Some text → accepts (about key).takes text ≡ true
 given_is_accepted command key words text none given =
     let at = text_given-at (about key).name words text given in
     faultless command key (take at.0 words) (at.0 + 2) (get_or words at.0 []) text (after_key-some (about key).name (get_or words at.0 []) text at.2)
@@ -88,7 +104,8 @@ pub record IsTakenText (key : Key) (text : List ℕ) : Type 0 where
   pub small : value_of text < 2 ^ 64
   pub taken : IsAccepted (about key).takes (value_of text)
 
-number_taken : (key : Key) (least greatest : ℕ) (text : List ℕ) → (about key).takes ≡ Number least greatest → greatest ≤ 1000000000 → accepts (about key).takes text ≡ true → IsTakenText key text
+number_taken : (key : Key) (least greatest : ℕ) (text : List ℕ) → (about key).takes ≡ Number least greatest → greatest ≤ 1000000000 →
+    accepts (about key).takes text ≡ true → IsTakenText key text
 number_taken key least greatest text is small good = search (rules, accepts-number)
 
 pub accepted_is_taken : (key : Key) (text : List ℕ) → IsNumber (about key).takes → accepts (about key).takes text ≡ true → IsTakenText key text
@@ -98,5 +115,6 @@ accepted_is_taken Times text number good = absurd number
 accepted_is_taken key text number good = number_taken key _ _ text refl (lit≤ tt) good
 
 -- words without a fault give a key of numbers a numeral that it takes
-pub given_is_taken : (command : Subcommand) (key : Key) (words : List (List ℕ)) (text : List ℕ) → words_fault command words ≡ None → IsNumber (about key).takes → text_given (about key).name words ≡ Some text → IsTakenText key text
+pub given_is_taken : (command : Subcommand) (key : Key) (words : List (List ℕ)) (text : List ℕ) → words_fault command words ≡ None →
+    IsNumber (about key).takes → text_given (about key).name words ≡ Some text → IsTakenText key text
 given_is_taken command key words text none number given = search (rules, accepted_is_taken, given_is_accepted)

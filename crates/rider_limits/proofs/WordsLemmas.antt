@@ -1,4 +1,33 @@
-use Rattle.std.proofs.Common.{rules, ◌≡◌, ◌≢◌, ℕ, ◌+◌, ◌<◌, true, cond, List, [], ◌∷◌, ◌++◌, Option, Some, None, MatchOption, length, get_or, take, drop, map, nat_eq, refl, sym, ap, ◌∙◌, inl, inr}
+use Rattle.std.proofs.Common.{
+  rules,
+  ◌≡◌,
+  ◌≢◌,
+  ℕ,
+  ◌+◌,
+  ◌<◌,
+  true,
+  cond,
+  List,
+  [],
+  ◌∷◌,
+  ◌++◌,
+  Option,
+  Some,
+  None,
+  MatchOption,
+  length,
+  get_or,
+  take,
+  drop,
+  map,
+  nat_eq,
+  refl,
+  sym,
+  ap,
+  ◌∙◌,
+  inl,
+  inr,
+}
 use Rattle.std.specs.List.{starts_with, position_or_len, before_first, after_first}
 use Rattle.std.specs.Borrow.{Bor}
 use Rattle.std.specs.Option.{option_copied, option_map}
@@ -52,7 +81,8 @@ after_key-some key word rest given =
     ]
 
 -- where a word begins with the key, what stands behind `=` in the rest is what it gives
-pub after_key-from : (key word rest : List ℕ) (r : Option (Bor (List ℕ))) → word ≡ key ++ rest → MatchOption r ((t : List ℕ) → rest ≢ 61 ∷ t) (λ x. rest ≡ 61 ∷ x.now) → option_copied r ≡ after_key key word
+pub after_key-from : (key word rest : List ℕ) (r : Option (Bor (List ℕ))) → word ≡ key ++ rest →
+    MatchOption r ((t : List ℕ) → rest ≢ 61 ∷ t) (λ x. rest ≡ 61 ∷ x.now) → option_copied r ≡ after_key key word
 after_key-from key word rest None begins lacks = search (rules, after_key-lacks, append_cancel_left)
 after_key-from key word rest (Some x) begins is = search (rules, after_key-found)
 
@@ -60,26 +90,34 @@ after_key-from key word rest (Some x) begins is = search (rules, after_key-found
 abbrev pub Parts : List ℕ → Option (Bor (List ℕ) × Bor (List ℕ)) → Type 0
 Parts word r =
     MatchOption r (position_or_len (λ c. nat_eq c 61) word ≡ length word)
-    (λ x. (position_or_len (λ c. nat_eq c 61) word < length word) × (x.0.now ≡ before_first (λ c. nat_eq c 61) word) × (x.1.now ≡ after_first (λ c. nat_eq c 61) word))
+    (λ x. (position_or_len (λ c. nat_eq c 61) word < length word) × (x.0.now ≡ before_first (λ c. nat_eq c 61) word) ×
+    (x.1.now ≡ after_first (λ c. nat_eq c 61) word))
 
 -- a word without `=` gives no key
-pub option_of-lacks : (command : Subcommand) (word : List ℕ) (r : Option (Bor (List ℕ) × Bor (List ℕ))) → Parts word r → r ≡ None → option_of command word ≡ None
+pub option_of-lacks : (command : Subcommand) (word : List ℕ) (r : Option (Bor (List ℕ) × Bor (List ℕ))) → Parts word r → r ≡ None →
+    option_of command word ≡ None
 unfolding option_of
 option_of-lacks command word r parts none = search (rules, MatchOption-at_none, le-ltb)
 
 -- a word with `=` gives the key of what stands before it, and what stands behind it
-pub option_of-parts : (command : Subcommand) (word : List ℕ) (r : Option (Bor (List ℕ) × Bor (List ℕ))) (x : Bor (List ℕ) × Bor (List ℕ)) → Parts word r → r ≡ Some x → option_of command word ≡ option_map (λ key. (key, x.1.now)) (key_of command x.0.now)
+pub option_of-parts : (command : Subcommand) (word : List ℕ) (r : Option (Bor (List ℕ) × Bor (List ℕ))) (x : Bor (List ℕ) × Bor (List ℕ)) → Parts word r →
+    r ≡ Some x → option_of command word ≡ option_map (λ key. (key, x.1.now)) (key_of command x.0.now)
 unfolding option_of
 option_of-parts command word r x parts some = search (rules, MatchOption-at_some, lt-ltb)
 
 -- what a word says among all words is what is wrong at its place
-fault_at-word : {X : Type 0} (f : X → List ℕ) (command : Subcommand) (xs : List X) (i : ℕ) (x : X) → i < length xs → x ≡ get_or xs i x → fault_at command (map f xs) i ≡ option_fault (map f (take i xs)) (i + 2) (option_of command (f x))
+fault_at-word : {X : Type 0} (f : X → List ℕ) (command : Subcommand) (xs : List X) (i : ℕ) (x : X) → i < length xs → x ≡ get_or xs i x →
+    fault_at command (map f xs) i ≡ option_fault (map f (take i xs)) (i + 2) (option_of command (f x))
 fault_at-word f command xs i x within is = search (rules, take-map, get_or-map)
 
 -- a word without a fault
-pub words_fault-step : {X : Type 0} (f : X → List ℕ) (command : Subcommand) (xs : List X) (i : ℕ) (x : X) → i < length xs → x ≡ get_or xs i x → option_fault (map f (take i xs)) (i + 2) (option_of command (f x)) ≡ None → first_fault (fault_at command (map f xs)) i ≡ None → first_fault (fault_at command (map f xs)) (i + 1) ≡ None
+pub words_fault-step : {X : Type 0} (f : X → List ℕ) (command : Subcommand) (xs : List X) (i : ℕ) (x : X) → i < length xs → x ≡ get_or xs i x →
+    option_fault (map f (take i xs)) (i + 2) (option_of command (f x)) ≡ None → first_fault (fault_at command (map f xs)) i ≡ None →
+    first_fault (fault_at command (map f xs)) (i + 1) ≡ None
 words_fault-step f command xs i x within is none before = search (rules, first_fault-none, fault_at-word)
 
 -- the first word with a fault
-pub words_fault-here : {X : Type 0} (f : X → List ℕ) (command : Subcommand) (xs : List X) (i : ℕ) (x : X) (fault : WordFault) → i < length xs → x ≡ get_or xs i x → option_fault (map f (take i xs)) (i + 2) (option_of command (f x)) ≡ Some fault → first_fault (fault_at command (map f xs)) i ≡ None → words_fault command (map f xs) ≡ Some fault
+pub words_fault-here : {X : Type 0} (f : X → List ℕ) (command : Subcommand) (xs : List X) (i : ℕ) (x : X) (fault : WordFault) → i < length xs →
+    x ≡ get_or xs i x → option_fault (map f (take i xs)) (i + 2) (option_of command (f x)) ≡ Some fault → first_fault (fault_at command (map f xs)) i ≡ None →
+    words_fault command (map f xs) ≡ Some fault
 words_fault-here f command xs i x fault within is some before = search (rules, length-map, first_fault-some, fault_at-word)

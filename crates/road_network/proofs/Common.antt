@@ -1,9 +1,45 @@
 -- The names that the proofs of this crate cite from elsewhere, passed on from one place. Declares nothing.
 pub use Rattle.std.proofs.lemmas.Bool.{cases_Bool, cases_eq, cases_lt, false≢true}
 pub use Rattle.std.proofs.lemmas.Bool.Decides.{nat_tests}
-pub use Rattle.std.proofs.lemmas.List.{flat_map_more, get_or-replicate, get_or_append_left, get_or_default, get_or_push, get_or_read, length-map, length-replicate, map_more, map_push, take_more}
-pub use Rattle.std.proofs.lemmas.List.Elements.{All-append, All-drop, All-head, All-map, All-more, All-nil, All-push, All-same, All-set, All-tail, All-take, filter-append, filter_more}
-pub use Rattle.std.proofs.lemmas.List.Sums.{count_by-le-length, count_by_more_no, count_by_more_yes, length-filter, passes_at_first, position_or_len_is, sum_by-cons, sum_by-le-sum_by, sum_by-take-le}
+pub use Rattle.std.proofs.lemmas.List.{
+  flat_map_more,
+  get_or-replicate,
+  get_or_append_left,
+  get_or_default,
+  get_or_push,
+  get_or_read,
+  length-map,
+  length-replicate,
+  map_more,
+  map_push,
+  take_more,
+}
+pub use Rattle.std.proofs.lemmas.List.Elements.{
+  All-append,
+  All-drop,
+  All-head,
+  All-map,
+  All-more,
+  All-nil,
+  All-push,
+  All-same,
+  All-set,
+  All-tail,
+  All-take,
+  filter-append,
+  filter_more,
+}
+pub use Rattle.std.proofs.lemmas.List.Sums.{
+  count_by-le-length,
+  count_by_more_no,
+  count_by_more_yes,
+  length-filter,
+  passes_at_first,
+  position_or_len_is,
+  sum_by-cons,
+  sum_by-le-sum_by,
+  sum_by-take-le,
+}
 pub use Rattle.std.specs.List.{IsDistinct, list_any, position_or_len}
 pub use Rattle.pool_base.specs.InOrder.{first_fault}
 pub use Rattle.pool_base.specs.Numeral.{number_at}

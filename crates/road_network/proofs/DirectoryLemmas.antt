@@ -1,5 +1,33 @@
 -- Different names that are numbered in turn.
-use Rattle.std.proofs.Common.{rules, ◌≡◌, ℕ, ◌+◌, ◌<◌, eqb, true, false, cond, Bool, List, [], ◌∷◌, ◌++◌, length, get_or, take, Option, Some, position, refl, sym, ap, ◌∙◌, subst, arith, length-append}
+use Rattle.std.proofs.Common.{
+  rules,
+  ◌≡◌,
+  ℕ,
+  ◌+◌,
+  ◌<◌,
+  eqb,
+  true,
+  false,
+  cond,
+  Bool,
+  List,
+  [],
+  ◌∷◌,
+  ◌++◌,
+  length,
+  get_or,
+  take,
+  Option,
+  Some,
+  position,
+  refl,
+  sym,
+  ap,
+  ◌∙◌,
+  subst,
+  arith,
+  length-append,
+}
 use Rattle.std.proofs.lemmas.Bool.Decides.{nat_tests}
 use Rattle.std.proofs.lemmas.Bool.{eqb-true}
 use Rattle.std.proofs.lemmas.List.{get_or-take, length-take-le, take_more}
@@ -26,11 +54,14 @@ first p names name own new = grind (arith, nat_tests, none p names new, position
 apart : (p : ℕ → Bool) (names : List ℕ) (name : ℕ) → p name ≡ false → position p (names ++ name ∷ []) ≡ position p names
 apart p names name other = grind (arith, nat_tests, position_or_len_push p names name, length-append)
 
-by : (b : Bool) (name other : ℕ) (names : List ℕ) → eqb name other ≡ b → list_any (eqb name) names ≡ false → position (eqb other) (names ++ name ∷ []) ≡ cond b (Some (length names)) (position (eqb other) names)
-by true name other names e new = subst (λ o. position (eqb o) (names ++ name ∷ []) ≡ Some (length names)) (eqb-true name other e) (first (eqb name) names name (grind (arith, nat_tests)) new)
+by : (b : Bool) (name other : ℕ) (names : List ℕ) → eqb name other ≡ b → list_any (eqb name) names ≡ false →
+    position (eqb other) (names ++ name ∷ []) ≡ cond b (Some (length names)) (position (eqb other) names)
+by true name other names e new = subst (λ o. position (eqb o) (names ++ name ∷ []) ≡ Some (length names)) (eqb-true name other e)
+    (first (eqb name) names name (grind (arith, nat_tests)) new)
 by false name other names e new = apart (eqb other) names name (grind (arith, nat_tests))
 
-position_push : (name other : ℕ) (names : List ℕ) → list_any (eqb name) names ≡ false → position (eqb other) (names ++ name ∷ []) ≡ cond (eqb name other) (Some (length names)) (position (eqb other) names)
+position_push : (name other : ℕ) (names : List ℕ) → list_any (eqb name) names ≡ false → position (eqb other) (names ++ name ∷ []) ≡ cond (eqb name other)
+    (Some (length names)) (position (eqb other) names)
 position_push name other names new = by (eqb name other) name other names refl new
 
 other_way : (a b : ℕ) → eqb a b ≡ false → eqb b a ≡ false
@@ -43,11 +74,13 @@ new_at names i distinct within =
     list_any_none (eqb (get_or names i 0)) (take i names)
     (λ k d below.
     let before : k < i = omega (arith, long, below) in
-    let apart : eqb (get_or names k d) (get_or names i 0) ≡ false = rw (get_or_default_zero names i d within) at (apart_from_distinct eqb names k i d distinct before within) in
+    let apart : eqb (get_or names k d) (get_or names i 0) ≡ false = rw (get_or_default_zero names i d within) at
+    (apart_from_distinct eqb names k i d distinct before within) in
     rw (get_or-take i names k d before) (other_way (get_or names k d) (get_or names i 0) apart))
 
 -- one name more is found
-pub FindsEach-more : {S : Type 0} (names : List ℕ) (i : ℕ) (numbers more : HashMap ℕ ℕ S) → IsDistinct eqb names → i < length names → FindsEach (take i names) numbers → Updates eqb numbers more (get_or names i 0) (Some i) → FindsEach (take (i + 1) names) more
+pub FindsEach-more : {S : Type 0} (names : List ℕ) (i : ℕ) (numbers more : HashMap ℕ ℕ S) → IsDistinct eqb names → i < length names →
+    FindsEach (take i names) numbers → Updates eqb numbers more (get_or names i 0) (Some i) → FindsEach (take (i + 1) names) more
 FindsEach-more names i numbers more distinct within each updates =
     λ other.
     let own = eqb (get_or names i 0) other in

@@ -1,6 +1,19 @@
 -- Nodes that are numbered keep their indexes.
 use Rattle.std.proofs.Common.{rules, ◌≡◌, ℕ, ◌<◌, ◌==◌, true, false, Bool, List, [], ◌∷◌, ◌++◌, length, map, refl, ap, ◌∙◌, arith, length-append, All}
-use Rattle.road_network.proofs.Common.{false≢true, nat_tests, All-head, All-tail, list_any, position_or_len, Arc, index_in, arc_in, number_at, with_row, with_name}
+use Rattle.road_network.proofs.Common.{
+  false≢true,
+  nat_tests,
+  All-head,
+  All-tail,
+  list_any,
+  position_or_len,
+  Arc,
+  index_in,
+  arc_in,
+  number_at,
+  with_row,
+  with_name,
+}
 
 pub any_found : {A : Type 0} (p : A → Bool) (xs : List A) → list_any p xs ≡ true → position_or_len p xs < length xs
 any_found p [] e = absurd (false≢true e)
@@ -27,7 +40,8 @@ pub with_name-numbers : (nodes : List ℕ) (name : ℕ) → (index_in (with_name
 with_name-numbers nodes name = search (rules, last_found, none_found, any_found, length-append)
 
 -- and every other name keeps its index
-pub with_name-keeps : (nodes : List ℕ) (name other : ℕ) → IsNumbered nodes other → (index_in (with_name nodes name) other ≡ index_in nodes other) × IsNumbered (with_name nodes name) other
+pub with_name-keeps : (nodes : List ℕ) (name other : ℕ) → IsNumbered nodes other → (index_in (with_name nodes name) other ≡ index_in nodes other) × IsNumbered
+    (with_name nodes name) other
 with_name-keeps nodes name other numbered = search (rules, position-append, length-append)
 
 -- both nodes of a row are numbered
@@ -39,18 +53,22 @@ pub with_row-numbers : (nodes : List ℕ) (fields : List (List ℕ)) → IsRowNu
     × (index_in (with_row nodes fields) (number_at fields 0) ≡ index_in (with_name nodes (number_at fields 0)) (number_at fields 0))
 with_row-numbers nodes fields = search (rules, with_name-numbers, with_name-keeps)
 
-with_row-keeps : (nodes : List ℕ) (fields : List (List ℕ)) (other : ℕ) → IsNumbered nodes other → (index_in (with_row nodes fields) other ≡ index_in nodes other) × IsNumbered (with_row nodes fields) other
+with_row-keeps : (nodes : List ℕ) (fields : List (List ℕ)) (other : ℕ) → IsNumbered nodes other →
+    (index_in (with_row nodes fields) other ≡ index_in nodes other) × IsNumbered (with_row nodes fields) other
 with_row-keeps nodes fields other numbered = search (rules, with_name-keeps)
 
-pub All-numbered : (nodes : List ℕ) (fields : List (List ℕ)) (rows : List (List (List ℕ))) → All (IsRowNumbered nodes) rows → All (IsRowNumbered (with_row nodes fields)) rows
+pub All-numbered : (nodes : List ℕ) (fields : List (List ℕ)) (rows : List (List (List ℕ))) → All (IsRowNumbered nodes) rows →
+    All (IsRowNumbered (with_row nodes fields)) rows
 All-numbered nodes fields rows all = λ k d below. ((with_row-keeps nodes fields _ (all k d below).0).1, (with_row-keeps nodes fields _ (all k d below).1).1)
 
 -- the arcs of the rows before keep their indexes
-pub map-arc_in : (nodes : List ℕ) (fields : List (List ℕ)) (rows : List (List (List ℕ))) → All (IsRowNumbered nodes) rows → map (arc_in (with_row nodes fields)) rows ≡ map (arc_in nodes) rows
+pub map-arc_in : (nodes : List ℕ) (fields : List (List ℕ)) (rows : List (List (List ℕ))) → All (IsRowNumbered nodes) rows →
+    map (arc_in (with_row nodes fields)) rows ≡ map (arc_in nodes) rows
 map-arc_in nodes fields [] all = refl
 map-arc_in nodes fields (row ∷ rows) all =
     let here = All-head (IsRowNumbered nodes) row rows all in
     let from = (with_row-keeps nodes fields (number_at row 0) here.0).0 in
     let to = (with_row-keeps nodes fields (number_at row 1) here.1).0 in
     let arc : arc_in (with_row nodes fields) row ≡ arc_in nodes row = rw (from, to) refl in
-    ap (λ (a : Arc). a ∷ map (arc_in (with_row nodes fields)) rows) arc ∙ ap (λ (arcs : List Arc). arc_in nodes row ∷ arcs) (map-arc_in nodes fields rows (All-tail (IsRowNumbered nodes) row rows all))
+    ap (λ (a : Arc). a ∷ map (arc_in (with_row nodes fields)) rows) arc ∙ ap (λ (arcs : List Arc). arc_in nodes row ∷ arcs)
+    (map-arc_in nodes fields rows (All-tail (IsRowNumbered nodes) row rows all))

@@ -1,9 +1,72 @@
 -- The names that the proofs of this crate cite from elsewhere, passed on from one place. Declares nothing.
 pub use Rattle.std.proofs.Math.Seq.{get_or-append_seam}
 pub use Rattle.std.proofs.lemmas.Bool.Decides.{nat_tests}
-pub use Rattle.std.proofs.lemmas.Bool.{MatchBool-at_false, MatchBool-at_true, and_from, and_parts, cases_Bool, cases_eq, cases_lt, cond-false, cond-true, cond_both, eq-eqb, eqb-true, false≢true, le-leb, le-ltb, leb-true, lt-leb, lt-ltb, ltb-false, ne_eqb, not_from_false, not_from_true, true≢false}
-pub use Rattle.std.proofs.lemmas.List.{append-nil, drop_more, flat_map_more, get_or-append-add, get_or-map, get_or-replicate, get_or-set_other, get_or-set_same, get_or_append_left, get_or_default, get_or_past, get_or_read, length-map, length-replicate, length-set, length-take, map-append, map_more, map_push, reverse-append, take_all, take_at, take_more}
-pub use Rattle.std.proofs.lemmas.List.Elements.{All-append, All-cons, All-contains, All-from_get_or, All-from_recursion, All-head, All-nil, All-push, All-tail, Contains-get_or, filter-append, filter_more, filter_passes, recursion_from_All}
+pub use Rattle.std.proofs.lemmas.Bool.{
+  MatchBool-at_false,
+  MatchBool-at_true,
+  and_from,
+  and_parts,
+  cases_Bool,
+  cases_eq,
+  cases_lt,
+  cond-false,
+  cond-true,
+  cond_both,
+  eq-eqb,
+  eqb-true,
+  false≢true,
+  le-leb,
+  le-ltb,
+  leb-true,
+  lt-leb,
+  lt-ltb,
+  ltb-false,
+  ne_eqb,
+  not_from_false,
+  not_from_true,
+  true≢false,
+}
+pub use Rattle.std.proofs.lemmas.List.{
+  append-nil,
+  drop_more,
+  flat_map_more,
+  get_or-append-add,
+  get_or-map,
+  get_or-replicate,
+  get_or-set_other,
+  get_or-set_same,
+  get_or_append_left,
+  get_or_default,
+  get_or_past,
+  get_or_read,
+  length-map,
+  length-replicate,
+  length-set,
+  length-take,
+  map-append,
+  map_more,
+  map_push,
+  reverse-append,
+  take_all,
+  take_at,
+  take_more,
+}
+pub use Rattle.std.proofs.lemmas.List.Elements.{
+  All-append,
+  All-cons,
+  All-contains,
+  All-from_get_or,
+  All-from_recursion,
+  All-head,
+  All-nil,
+  All-push,
+  All-tail,
+  Contains-get_or,
+  filter-append,
+  filter_more,
+  filter_passes,
+  recursion_from_All,
+}
 pub use Rattle.std.proofs.lemmas.List.Filters.{length-filter_both}
 pub use Rattle.std.proofs.lemmas.List.Folds.{Any-from_list_any, flat_map-map, sum_by-replicate}
 pub use Rattle.std.proofs.lemmas.List.FromFn.{get_or-range_with_len, length-range_with_len}
@@ -48,7 +111,27 @@ pub use Rattle.dispatch_engine.specs.limits.Settling.{IsPlaced, IsSettled}
 pub use Rattle.dispatch_engine.specs.lemmas.limits.NamedPromises.{IsHeld, ideal_second, is_promised_to, kept_leg, kept_legs, no_request}
 pub use Rattle.request_book.proofs.lemmas.register.BatchLemmas.{after_seal-id}
 pub use Rattle.request_book.proofs.lemmas.ConsistentLemmas.{step-consistent}
-pub use Rattle.request_book.proofs.lemmas.values.KeyedLemmas.{All-look_up, KeysDiffer-filter_map, KeysDiffer-from_rise, KeysDiffer-map, by_key-order, look_up-at, look_up-changed_here, look_up-changed_there, look_up-filter_map, look_up-here, look_up-key, look_up-map, look_up-nil, look_up-push_found, look_up-push_here, look_up-push_there, look_up-there, map-changed_at, without_key-absent}
+pub use Rattle.request_book.proofs.lemmas.values.KeyedLemmas.{
+  All-look_up,
+  KeysDiffer-filter_map,
+  KeysDiffer-from_rise,
+  KeysDiffer-map,
+  by_key-order,
+  look_up-at,
+  look_up-changed_here,
+  look_up-changed_there,
+  look_up-filter_map,
+  look_up-here,
+  look_up-key,
+  look_up-map,
+  look_up-nil,
+  look_up-push_found,
+  look_up-push_here,
+  look_up-push_there,
+  look_up-there,
+  map-changed_at,
+  without_key-absent,
+}
 pub use Rattle.request_book.proofs.lemmas.LawLemmas.{reached-consistent, rounds-join}
 pub use Rattle.request_book.proofs.lemmas.NamedLemmas.{step-named}
 pub use Rattle.request_book.proofs.lemmas.register.StepTable.{by-table}
@@ -89,7 +172,16 @@ pub use Rattle.request_book.specs.declared.values.rider.Status.TheVariants.{Aboa
 pub use Rattle.request_book.specs.declared.values.state.State.{State}
 unfoldable pub use Rattle.request_book.specs.lemmas.register.Refusals.{first_of}
 pub use Rattle.request_book.specs.lemmas.register.Refusals.{batch_open, clock_back, duplicate_rider}
-unfoldable pub use Rattle.request_book.specs.lemmas.register.Table.{cancel_step, close_step, dropoff_step, pickup_step, report_step, seal_step, submit_step, table_step}
+unfoldable pub use Rattle.request_book.specs.lemmas.register.Table.{
+  cancel_step,
+  close_step,
+  dropoff_step,
+  pickup_step,
+  report_step,
+  seal_step,
+  submit_step,
+  table_step,
+}
 pub use Rattle.request_book.specs.lemmas.register.Table.{answer, dropped_off, picked_up, submit_refusal}
 pub use Rattle.rider_limits.specs.declared.settings.Settings.{Settings}
 pub use Rattle.road_network.specs.Roads.{IsArcAmong, IsNetwork, Roads, has_node, hop_of, index_in, leaving}
@@ -98,8 +190,40 @@ pub use Rattle.road_network.specs.declared.arc.Arc.{Arc}
 pub use Rattle.road_network.specs.declared.hop.Hop.{Hop}
 pub use Rattle.route_drive.specs.Counts.{AreCounts, IsDelayOf, dropped_among, entries_of, ideal_dropoff, is_dropped, is_picked, picked_among, wait_of}
 pub use Rattle.route_drive.specs.Day.{day_fault, first_seal, is_of_day, is_seal_command, lane_fault, latest_seal, round_fault, seal_of, seals_fault}
-pub use Rattle.route_drive.specs.Driven.{AreDriven, ComesTooLate, HasDrivenToTheEnd, IsDrivenDay, IsDrivenRound, IsLateAnswer, IsNewBook, IsPrecededBy, IsTooLateDay, courses_after, courses_from, courses_left, first_courses, left_course, number_after, plan_in, planned_course, planned_in}
-pub use Rattle.route_drive.specs.Entering.{AreEntered, EntersTooLate, IsEntered, IsReported, due, goal_of, left_commands, reached_by, second_of, standing_after, stop_command, to_come}
+pub use Rattle.route_drive.specs.Driven.{
+  AreDriven,
+  ComesTooLate,
+  HasDrivenToTheEnd,
+  IsDrivenDay,
+  IsDrivenRound,
+  IsLateAnswer,
+  IsNewBook,
+  IsPrecededBy,
+  IsTooLateDay,
+  courses_after,
+  courses_from,
+  courses_left,
+  first_courses,
+  left_course,
+  number_after,
+  plan_in,
+  planned_course,
+  planned_in,
+}
+pub use Rattle.route_drive.specs.Entering.{
+  AreEntered,
+  EntersTooLate,
+  IsEntered,
+  IsReported,
+  due,
+  goal_of,
+  left_commands,
+  reached_by,
+  second_of,
+  standing_after,
+  stop_command,
+  to_come,
+}
 pub use Rattle.route_drive.specs.Promises.{DaysKeep, EntriesKeep, EntryKeeps, IsClosedInTime, IsDroppedInTime, IsKeptDay, IsPickedBy, IsRunOfDay, StateKeeps}
 pub use Rattle.route_drive.specs.Walk.{IsShortestWalk, steps_of}
 pub use Rattle.route_drive.specs.declared.counts.ServedRider.{ServedRider}
@@ -112,10 +236,54 @@ pub use Rattle.route_drive.specs.declared.day_run.DriveFault.TheVariants.{OutOfM
 pub use Rattle.route_drive.specs.declared.tree.Found.{Found}
 pub use Rattle.route_drive.specs.declared.walk.WalkStep.{WalkStep}
 pub use Rattle.route_drive.specs.work.Counting.{AddsServed, AreServed, IsDelayed, all_served_by, waited}
-pub use Rattle.route_drive.specs.work.Drive.{HasCome, HasEnded, IsCounted, IsInTime, IsLastOn, IsLateAt, IsRoundOn, IsStoppedAt, IsTaken, IsUnderWay, Takes, at_rest, fault_at, reported_place}
+pub use Rattle.route_drive.specs.work.Drive.{
+  HasCome,
+  HasEnded,
+  IsCounted,
+  IsInTime,
+  IsLastOn,
+  IsLateAt,
+  IsRoundOn,
+  IsStoppedAt,
+  IsTaken,
+  IsUnderWay,
+  Takes,
+  at_rest,
+  fault_at,
+  reported_place,
+}
 pub use Rattle.route_drive.specs.work.Places.{ArePlaced, heading_of, headings_of, told_by, told_of}
 pub use Rattle.route_drive.specs.work.Rounds.{Adds}
-pub use Rattle.route_drive.specs.work.Serving.{AreReached, AreReported, HasCalls, HasSeatsFor, IsBound, IsBoundBy, IsDayState, IsDone, IsKept, IsOfVehicle, IsPromiseKept, IsReadyForSeal, IsRightDropoff, IsRightPickup, IsRightStop, IsServing, KeepsBounds, LeavesAll, LeavesOthers, ShowsRiders, calls_of, chosen_stops, closed, course_of, is_stop_of, party_at, seats_after, stops_with}
+pub use Rattle.route_drive.specs.work.Serving.{
+  AreReached,
+  AreReported,
+  HasCalls,
+  HasSeatsFor,
+  IsBound,
+  IsBoundBy,
+  IsDayState,
+  IsDone,
+  IsKept,
+  IsOfVehicle,
+  IsPromiseKept,
+  IsReadyForSeal,
+  IsRightDropoff,
+  IsRightPickup,
+  IsRightStop,
+  IsServing,
+  KeepsBounds,
+  LeavesAll,
+  LeavesOthers,
+  ShowsRiders,
+  calls_of,
+  chosen_stops,
+  closed,
+  course_of,
+  is_stop_of,
+  party_at,
+  seats_after,
+  stops_with,
+}
 pub use Rattle.route_drive.specs.work.Tree.{AreHopsOpened, Grows, IsGrowing, IsOpened, IsTight, IsTree, IsWalkBack, found_at, is_seen, no_found}
 pub use Rattle.input_rows.specs.script.Round.{IsRound, MayStand, NumberedLanes, empty_round, lane_at}
 pub use Rattle.dispatch_engine.specs.lanes.Locked.{sealed_by}

@@ -7,9 +7,12 @@ pub latest-push : (rounds : List NumberedLanes) (r : NumberedLanes) → latest_s
 latest-push [] r = omega arith
 latest-push (x ∷ rounds) r = search (rules, (latest-push rounds r))
 
-pub fault_here : (rounds : List NumberedLanes) (i latest : ℕ) (r : NumberedLanes) → i < length rounds → r ≡ get_or rounds i r → latest ≡ latest_seal (take i rounds) → fault_at rounds i ≡ round_fault latest r
-fault_here rounds i latest r h is are = ap (λ n. round_fault n (get_or rounds i (empty_round 0))) (sym are) ∙ ap (round_fault latest) (sym (get_or_read rounds i r h is (empty_round 0)))
+pub fault_here : (rounds : List NumberedLanes) (i latest : ℕ) (r : NumberedLanes) → i < length rounds → r ≡ get_or rounds i r →
+    latest ≡ latest_seal (take i rounds) → fault_at rounds i ≡ round_fault latest r
+fault_here rounds i latest r h is are = ap (λ n. round_fault n (get_or rounds i (empty_round 0))) (sym are) ∙
+    ap (round_fault latest) (sym (get_or_read rounds i r h is (empty_round 0)))
 
-pub latest-more : (rounds : List NumberedLanes) (i latest : ℕ) (r : NumberedLanes) → i < length rounds → r ≡ get_or rounds i r → latest ≡ latest_seal (take i rounds)
+pub latest-more : (rounds : List NumberedLanes) (i latest : ℕ) (r : NumberedLanes) → i < length rounds → r ≡ get_or rounds i r →
+    latest ≡ latest_seal (take i rounds)
     → max (unwrap_or (seal_of r) 0) latest ≡ latest_seal (take (i + 1) rounds)
 latest-more rounds i latest r h is are = grind (arith, nat_tests, (latest-push (take i rounds) r), (take_more rounds i r h))

@@ -1,13 +1,75 @@
 -- Who is served by entries that follow one another, and the counts of them.
-use Rattle.std.proofs.Common.{◌≡◌, ℕ, ◌+◌, ◌^◌, ◌<◌, max, Bool, List, [], ◌∷◌, ◌++◌, length, get_or, map, filter, take, refl, sym, ap, ◌∙◌, subst, arith, append_assoc, append-nil, Contains, min, ◌-◌, rules}
-use Rattle.route_drive.proofs.Common.{AllZip, take_more, get_or_default, length-map, map-append, Any-from_list_any, filter-append, IsNode, Entry, Reply, BookRider, Roads, ServedRider, DayRound, greatest, AreCounts, IsDelayOf, dropped_among, entries_of, is_dropped, is_picked, picked_among, wait_of, AddsServed, AreServed, IsDelayed, all_served_by, waited, eqb-true, flat_map_more, map_push}
+use Rattle.std.proofs.Common.{
+  ◌≡◌,
+  ℕ,
+  ◌+◌,
+  ◌^◌,
+  ◌<◌,
+  max,
+  Bool,
+  List,
+  [],
+  ◌∷◌,
+  ◌++◌,
+  length,
+  get_or,
+  map,
+  filter,
+  take,
+  refl,
+  sym,
+  ap,
+  ◌∙◌,
+  subst,
+  arith,
+  append_assoc,
+  append-nil,
+  Contains,
+  min,
+  ◌-◌,
+  rules,
+}
+use Rattle.route_drive.proofs.Common.{
+  AllZip,
+  take_more,
+  get_or_default,
+  length-map,
+  map-append,
+  Any-from_list_any,
+  filter-append,
+  IsNode,
+  Entry,
+  Reply,
+  BookRider,
+  Roads,
+  ServedRider,
+  DayRound,
+  greatest,
+  AreCounts,
+  IsDelayOf,
+  dropped_among,
+  entries_of,
+  is_dropped,
+  is_picked,
+  picked_among,
+  wait_of,
+  AddsServed,
+  AreServed,
+  IsDelayed,
+  all_served_by,
+  waited,
+  eqb-true,
+  flat_map_more,
+  map_push,
+}
 use Rattle.route_drive.specs.declared.counts.Served.{Served}
 
 pub greatest-push : (xs : List ℕ) (x : ℕ) → greatest (xs ++ x ∷ []) ≡ max (greatest xs) x
 greatest-push [] x = omega arith
 greatest-push (y ∷ xs) x = let rest = greatest-push xs x in omega (arith, rest)
 
-pub greatest_more : {X : Type 0} (f : X → ℕ) (xs : List X) (k : ℕ) (x : X) (worst n : ℕ) → k < length xs → x ≡ get_or xs k x → worst ≡ greatest (map f (take k xs)) → n ≡ f x
+pub greatest_more : {X : Type 0} (f : X → ℕ) (xs : List X) (k : ℕ) (x : X) (worst n : ℕ) → k < length xs → x ≡ get_or xs k x →
+    worst ≡ greatest (map f (take k xs)) → n ≡ f x
     → max worst n ≡ greatest (map f (take (k + 1) xs))
 greatest_more f xs k x worst n within is so one =
     let parts : take (k + 1) xs ≡ take k xs ++ x ∷ [] = take_more xs k x within ∙ ap (λ y. take k xs ++ y ∷ []) (sym is) in
@@ -18,7 +80,8 @@ pub entries_of-push : (made : List DayRound) (r : DayRound) → entries_of (made
 entries_of-push made r = sym (flat_map_more (λ (x : DayRound). x.journal.entries) [] made r)
 
 -- whom earlier entries and later ones served
-served-append : (p : Reply → Bool) (es fs : List Entry) → all_served_by (filter (λ e. p e.reply) (es ++ fs)) ≡ all_served_by (filter (λ e. p e.reply) es) ++ all_served_by (filter (λ e. p e.reply) fs)
+served-append : (p : Reply → Bool) (es fs : List Entry) → all_served_by (filter (λ e. p e.reply) (es ++ fs)) ≡ all_served_by (filter (λ e. p e.reply) es) ++
+    all_served_by (filter (λ e. p e.reply) fs)
 served-append p es fs = search (rules, filter-append, map-append)
 
 -- no entry follows
@@ -39,7 +102,8 @@ adds_more entries k e a b c within is adds one =
     subst (λ (es : List Entry). AddsServed es a c) (sym parts) (adds-trans (take k entries) (e ∷ []) a b c adds one)
 
 -- one more round is noted
-pub served_more : (made : List DayRound) (r : DayRound) (a b : Served) → AreServed (entries_of made) a → AddsServed r.journal.entries a b → AreServed (entries_of (made ++ r ∷ [])) b
+pub served_more : (made : List DayRound) (r : DayRound) (a b : Served) → AreServed (entries_of made) a → AddsServed r.journal.entries a b →
+    AreServed (entries_of (made ++ r ∷ [])) b
 served_more made r a b are adds =
     let es = entries_of made in
     let fs = r.journal.entries in
@@ -53,7 +117,8 @@ waits_of : (riders : List BookRider) (es : List Entry) → map (waited riders) (
 waits_of riders [] = refl
 waits_of riders (e ∷ es) = ap (λ l. wait_of riders e ∷ l) (waits_of riders es)
 
-delays_of : (roads : Roads) (riders : List BookRider) (es : List Entry) (ds : List ℕ) → AllZip (IsDelayed roads riders) (all_served_by es) ds → AllZip (IsDelayOf roads riders) es ds
+delays_of : (roads : Roads) (riders : List BookRider) (es : List Entry) (ds : List ℕ) → AllZip (IsDelayed roads riders) (all_served_by es) ds →
+    AllZip (IsDelayOf roads riders) es ds
 delays_of roads riders [] [] are = tt
 delays_of roads riders (e ∷ es) (d ∷ ds) are = (are.0, delays_of roads riders es ds are.1)
 delays_of roads riders es ds are = absurd are

@@ -1,10 +1,103 @@
 -- The suffix law: what remains of a serving order serves.
-use Rattle.std.proofs.Common.{◌≡◌, ℕ, suc, ◌+◌, ◌<◌, ◌≤◌, Bool, true, false, eqb, List, [], ◌∷◌, ◌++◌, length, map, filter, drop, refl, sym, ap, ◌∙◌, subst, arith, inl, inr, length-append, All, remove, not, rules}
-use Rattle.route_drive.proofs.Common.{AllByRecursion, cases_lt, cond-true, cond-false, false≢true, get_or_append_left, get_or-append_seam, All-append, All-cons, All-nil, sum_by_push, sum_by-cons, longest, Leg, Task, Stop, Pick, Drop, Alight, Visit, is_of_rider, is_of_passenger, IsKnown, place_of, boarding_of, room_after, ServesFrom, seconds_from, no_leg, leg_at, persons, IsLeg, IsTask, visit_at, visits_of, free_seats, IsOrderOf, Serves, seconds_of, eq-eqb, ne_eqb, not_from_false, not_from_true, map-map, nat_tests}
+use Rattle.std.proofs.Common.{
+  ◌≡◌,
+  ℕ,
+  suc,
+  ◌+◌,
+  ◌<◌,
+  ◌≤◌,
+  Bool,
+  true,
+  false,
+  eqb,
+  List,
+  [],
+  ◌∷◌,
+  ◌++◌,
+  length,
+  map,
+  filter,
+  drop,
+  refl,
+  sym,
+  ap,
+  ◌∙◌,
+  subst,
+  arith,
+  inl,
+  inr,
+  length-append,
+  All,
+  remove,
+  not,
+  rules,
+}
+use Rattle.route_drive.proofs.Common.{
+  AllByRecursion,
+  cases_lt,
+  cond-true,
+  cond-false,
+  false≢true,
+  get_or_append_left,
+  get_or-append_seam,
+  All-append,
+  All-cons,
+  All-nil,
+  sum_by_push,
+  sum_by-cons,
+  longest,
+  Leg,
+  Task,
+  Stop,
+  Pick,
+  Drop,
+  Alight,
+  Visit,
+  is_of_rider,
+  is_of_passenger,
+  IsKnown,
+  place_of,
+  boarding_of,
+  room_after,
+  ServesFrom,
+  seconds_from,
+  no_leg,
+  leg_at,
+  persons,
+  IsLeg,
+  IsTask,
+  visit_at,
+  visits_of,
+  free_seats,
+  IsOrderOf,
+  Serves,
+  seconds_of,
+  eq-eqb,
+  ne_eqb,
+  not_from_false,
+  not_from_true,
+  map-map,
+  nat_tests,
+}
 use Rattle.std.proofs.lemmas.List.Edits.{length-remove}
 use Rattle.stop_orders.specs.declared.task.visit.Visit.TheVariants.{Pickup, Dropoff}
 use Rattle.stop_orders.specs.Laws.{number_without, stop_without_passenger, without_passenger}
-use Rattle.stop_orders.proofs.lemmas.task.DeletionLemmas.{old_number, not_same, renumbered, renumbered_back, old_number-ne, old_number-lt, number_without-lt, leg_without, All-remove, order_without_passenger, persons_without, valid_without_passenger, visit_without_passenger, visits_renumbered}
+use Rattle.stop_orders.proofs.lemmas.task.DeletionLemmas.{
+  old_number,
+  not_same,
+  renumbered,
+  renumbered_back,
+  old_number-ne,
+  old_number-lt,
+  number_without-lt,
+  leg_without,
+  All-remove,
+  order_without_passenger,
+  persons_without,
+  valid_without_passenger,
+  visit_without_passenger,
+  visits_renumbered,
+}
 use Rattle.route_drive.proofs.kept.Lists.{all_mapped, both, filter_all, filter_filter, filter_renamed, map_agrees, skips, takes}
 use Rattle.route_drive.specs.Rest.{task_after, stop_after, rest_of, MeetsNext, RestServes}
 
@@ -28,9 +121,12 @@ got_out points task j stops valid order =
     let within : j < length task.aboard.items = order.known.0 in
     record {
       valid = valid_without_passenger points task valid j within;
-      order = subst (λ ss. IsOrderOf (without_passenger j task) (map (stop_without_passenger j) ss)) (skips (λ s. not (is_of_passenger j s)) (Alight j) stops (not_from_true (is_of_passenger j (Alight j)) (eq-eqb j j refl)) ∙ all_left) (order_without_passenger points task valid j within (Alight j ∷ stops) order);
+      order = subst (λ ss. IsOrderOf (without_passenger j task) (map (stop_without_passenger j) ss))
+          (skips (λ s. not (is_of_passenger j s)) (Alight j) stops (not_from_true (is_of_passenger j (Alight j)) (eq-eqb j j refl)) ∙ all_left)
+          (order_without_passenger points task valid j within (Alight j ∷ stops) order);
       visits = subst (λ ss. map (visit_at (without_passenger j task)) (map (stop_without_passenger j) ss) ≡ map (visit_at task) ss) all_left
-          (visits_renumbered (visit_at (without_passenger j task)) (visit_at task) (stop_without_passenger j) (is_of_passenger j) (visit_without_passenger points task valid j within) stops);
+          (visits_renumbered (visit_at (without_passenger j task)) (visit_at task) (stop_without_passenger j) (is_of_passenger j)
+          (visit_without_passenger points task valid j within) stops);
       room = omega (arith, persons_without points task valid j within, valid.seated);
     }
   where
@@ -53,10 +149,17 @@ drops i stop = elim stop [ Pick k ↦ false | Drop k ↦ eqb k i | Alight k ↦ 
 persons-least : (points : ℕ) (legs : List Leg) → All (IsLeg points) legs → length legs ≤ persons legs
 persons-least points [] all = omega arith
 persons-least points (leg ∷ legs) all =
-    omega (arith, (all 0 leg (omega arith)).someone, persons-least points legs (λ k d h. all (suc k) d (omega arith)), sum_by-cons (λ (l : Leg). l.party) leg legs)
+    omega (
+      arith,
+      (all 0 leg (omega arith)).someone,
+      persons-least points legs (λ k d h. all (suc k) d (omega arith)),
+      sum_by-cons (λ (l : Leg). l.party) leg
+          legs,
+    )
 
 -- a rider gets in
-module _ (points : ℕ) (task : Task) (valid : IsTask points task) (i : ℕ) (stops : List Stop) (order : IsOrderOf task (Pick i ∷ stops)) (boards : (leg_at task.riders.items i).party ≤ free_seats task) where
+module _ (points : ℕ) (task : Task) (valid : IsTask points task) (i : ℕ) (stops : List Stop) (order : IsOrderOf task (Pick i ∷ stops))
+    (boards : (leg_at task.riders.items i).party ≤ free_seats task) where
   P : ℕ
   P = length task.aboard.items
 
@@ -104,8 +207,16 @@ module _ (points : ℕ) (task : Task) (valid : IsTask points task) (i : ℕ) (st
   picked_visit : (s : Stop) → After s → visit_at (task_after (Pick i) task) (g s) ≡ visit_at task s
   unfolding picks
   picked_visit (Pick k) h = ap (λ leg. Pickup leg.origin leg.latest_pickup leg.party) (leg_without task.riders.items i k among (not_same k i h.1))
-  picked_visit (Drop k) h = grind (arith, nat_tests, renamed_own k, renamed_ne k, get_or-append_seam task.aboard.items (leg_at task.riders.items i) [] no_leg, leg_without task.riders.items i k among)
-  picked_visit (Alight k) h = ap (λ leg. Dropoff leg.destination leg.latest_dropoff leg.ideal leg.party) (get_or_append_left task.aboard.items (leg_at task.riders.items i ∷ []) no_leg k h.0)
+  picked_visit (Drop k) h = grind (
+    arith,
+    nat_tests,
+    renamed_own k,
+    renamed_ne k,
+    get_or-append_seam task.aboard.items (leg_at task.riders.items i) [] no_leg,
+    leg_without task.riders.items i k among,
+  )
+  picked_visit (Alight k) h = ap (λ leg. Dropoff leg.destination leg.latest_dropoff leg.ideal leg.party)
+      (get_or_append_left task.aboard.items (leg_at task.riders.items i ∷ []) no_leg k h.0)
 
   rider_tests : (k : ℕ) (s : Stop) → After s → is_of_rider k (g s) ≡ is_of_rider (old_number i k) s
   unfolding picks
@@ -135,16 +246,27 @@ module _ (points : ℕ) (task : Task) (valid : IsTask points task) (i : ℕ) (st
   picked_known : (s : Stop) → After s → IsKnown (length (remove task.riders.items i)) (length aboard') (g s)
   unfolding picks
   picked_known (Pick k) h = number_without-lt i k (length task.riders.items) (length (remove task.riders.items i)) among less (not_same k i h.1) h.0
-  picked_known (Drop k) h = grind (arith, nat_tests, renamed_own k, renamed_ne k, more, number_without-lt i k (length task.riders.items) (length (remove task.riders.items i)) among less, h.0)
+  picked_known (Drop k) h = grind (
+    arith,
+    nat_tests,
+    renamed_own k,
+    renamed_ne k,
+    more,
+    number_without-lt i k (length task.riders.items)
+        (length (remove task.riders.items i)) among less,
+    h.0,
+  )
   picked_known (Alight k) h = let lt : k < length task.aboard.items = h.0 in let q = more in omega (arith, q)
 
   picked_rides : (k : ℕ) → k < length (remove task.riders.items i) → filter (is_of_rider k) (map g stops) ≡ Pick k ∷ Drop k ∷ []
   picked_rides k h =
       let theirs : filter (is_of_rider (old_number i k)) stops ≡ Pick (old_number i k) ∷ Drop (old_number i k) ∷ [] =
-      sym (skips (is_of_rider (old_number i k)) (Pick i) stops (old_number-ne i k)) ∙ order.rides (old_number i k) (old_number-lt i k (length task.riders.items) (length (remove task.riders.items i)) among less h) in
+      sym (skips (is_of_rider (old_number i k)) (Pick i) stops (old_number-ne i k)) ∙ order.rides (old_number i k)
+      (old_number-lt i k (length task.riders.items) (length (remove task.riders.items i)) among less h) in
       filter_renamed (is_of_rider k) (is_of_rider (old_number i k)) g After (rider_tests k) stops after
       ∙ ap (map g) theirs
-      ∙ ap (λ d. Pick (number_without i (old_number i k)) ∷ d ∷ []) (renamed_ne (old_number i k) (ne_eqb (old_number i k) i (λ q. not_same i (old_number i k) (old_number-ne i k) (sym q))))
+      ∙ ap (λ d. Pick (number_without i (old_number i k)) ∷ d ∷ []) (renamed_ne (old_number i k)
+      (ne_eqb (old_number i k) i (λ q. not_same i (old_number i k) (old_number-ne i k) (sym q))))
       ∙ ap (λ n. Pick n ∷ Drop n ∷ []) (renumbered_back i k)
 
   picked_alights : (k : ℕ) → k < length aboard' → filter (is_of_passenger k) (map g stops) ≡ Alight k ∷ []
@@ -184,12 +306,14 @@ module _ (points : ℕ) (task : Task) (valid : IsTask points task) (i : ℕ) (st
           alights = picked_alights;
           known = all_mapped After (IsKnown (length (remove task.riders.items i)) (length aboard')) g picked_known stops after;
         };
-        visits = map-map (visit_at (task_after (Pick i) task)) g stops ∙ map_agrees (λ s. visit_at (task_after (Pick i) task) (g s)) (visit_at task) After picked_visit stops after;
+        visits = map-map (visit_at (task_after (Pick i) task)) g stops ∙ map_agrees (λ s. visit_at (task_after (Pick i) task) (g s)) (visit_at task) After
+            picked_visit stops after;
         room = omega (arith, persons_more);
       }
 
 -- one stop on
-onward : (points : ℕ) (task : Task) (stop : Stop) (stops : List Stop) → IsTask points task → IsOrderOf task (stop ∷ stops) → boarding_of (visit_at task stop) ≤ free_seats task → Onward points task stop stops
+onward : (points : ℕ) (task : Task) (stop : Stop) (stops : List Stop) → IsTask points task → IsOrderOf task (stop ∷ stops) →
+    boarding_of (visit_at task stop) ≤ free_seats task → Onward points task stop stops
 onward points task (Pick i) stops valid order boards = got_in points task valid i stops order boards
 onward points task (Drop i) stops valid order boards = grind (arith, nat_tests, order.rides i order.known.0)
 onward points task (Alight j) stops valid order boards = got_out points task j stops valid order
@@ -209,7 +333,8 @@ same_dwell : (stop : Stop) (task : Task) → (task_after stop task).dwell ≡ ta
 same_dwell (Pick i) task = refl
 same_dwell stop task = refl
 
-goes_on : (points : ℕ) (tau : ℕ → ℕ → ℕ) (dwell : ℕ) (k : ℕ) (task : Task) (place free : ℕ) (stops : List Stop) → task.dwell ≡ dwell → IsTask points task → IsOrderOf task stops
+goes_on : (points : ℕ) (tau : ℕ → ℕ → ℕ) (dwell : ℕ) (k : ℕ) (task : Task) (place free : ℕ) (stops : List Stop) → task.dwell ≡ dwell → IsTask points task →
+    IsOrderOf task stops
     → ServesFrom tau dwell place free (free_seats task) (visits_of task stops)
     → GoesOn points tau dwell (drop k (visits_of task stops)) (drop k (seconds_from tau dwell place free (visits_of task stops))) (rest_of k task stops)
 goes_on points tau dwell (suc k) task place free (stop ∷ stops) same valid order serves =
@@ -218,13 +343,15 @@ goes_on points tau dwell (suc k) task place free (stop ∷ stops) same valid ord
     let then : ℕ = free + tau place next + dwell in
     let on = onward points task stop stops valid order serves.2 in
     let renamed : List Stop = map (stop_after stop (length task.aboard.items)) stops in
-    let from : ServesFrom tau dwell next then (free_seats (task_after stop task)) (visits_of (task_after stop task) renamed) = rw (on.visits, on.room) serves.3 in
+    let from : ServesFrom tau dwell next then (free_seats (task_after stop task)) (visits_of (task_after stop task) renamed) =
+    rw (on.visits, on.room) serves.3 in
     subst (λ vs. GoesOn points tau dwell (drop k vs) (drop k (seconds_from tau dwell next then vs)) (rest_of k (task_after stop task) renamed)) on.visits
     (goes_on points tau dwell k (task_after stop task) next then renamed (same_dwell stop task ∙ same) on.valid on.order from)
 goes_on points tau dwell k task place free stops same valid order serves = search rules
 
 -- the rest serves from wherever the next stop is met
-meets : (tau : ℕ → ℕ → ℕ) (dwell place free room x ready : ℕ) (visits : List Visit) (seconds : List ℕ) → ServesFrom tau dwell place free room visits → seconds_from tau dwell place free visits ≡ seconds
+meets : (tau : ℕ → ℕ → ℕ) (dwell place free room x ready : ℕ) (visits : List Visit) (seconds : List ℕ) → ServesFrom tau dwell place free room visits →
+    seconds_from tau dwell place free visits ≡ seconds
     → MeetsNext tau x ready visits seconds → ServesFrom tau dwell x ready room visits × (seconds_from tau dwell x ready visits ≡ seconds)
 meets tau dwell place free room x ready [] seconds serves are joins = (tt, are)
 meets tau dwell place free room x ready (v ∷ visits) [] serves are joins = absurd (let e : 0 ≡ suc _ = sym (ap length are) in cc)
@@ -234,4 +361,5 @@ pub suffix_serves : (points : ℕ) (tau : ℕ → ℕ → ℕ) (task : Task) (st
     → IsTask points task → Serves tau task stops → place < points → ready ≤ longest
     → MeetsNext tau place ready (drop k (visits_of task stops)) (drop k (seconds_of tau task stops))
     → RestServes points tau task stops k place ready
-suffix_serves points tau task stops k place ready valid serves within short joins = grind (arith, nat_tests, (goes_on points tau task.dwell k task task.start task.ready stops), (meets tau task.dwell))
+suffix_serves points tau task stops k place ready valid serves within short joins = grind
+    (arith, nat_tests, (goes_on points tau task.dwell k task task.start task.ready stops), (meets tau task.dwell))

@@ -27,7 +27,7 @@ pub trait Drafter: Sync {
 
 /// A row that is taken or forbidden below another node.
 #[derive(Clone, Copy)]
-pub struct Decision {
+pub struct RowDecision {
     pub parent: usize,
     pub row: usize,
     pub is_taken: bool,
@@ -37,7 +37,7 @@ pub struct Decision {
 #[derive(Drop)]
 pub struct DraftNode {
     /// What leads here; none at the root.
-    pub decision: Option<Decision>,
+    pub decision: Option<RowDecision>,
     /// The row that the node is branched on, and the number of the node where it is taken. The one where it
     /// isn't comes next.
     pub branch: Option<(usize, usize)>,
@@ -68,7 +68,7 @@ impl Draft {
     }
 
     /// The decision that leads to a node.
-    pub fn decision(&self, number: usize) -> Option<Decision> {
+    pub fn decision(&self, number: usize) -> Option<RowDecision> {
         match self.nodes.get(number) {
             None => None,
             Some(node) => node.decision,

@@ -30,7 +30,7 @@ pub mod lists;
 mod row_table;
 
 pub use ascent::{ascend, first_multipliers};
-pub use draft::{Decision, Draft, DraftNode, Drafter};
+pub use draft::{Draft, DraftNode, Drafter, RowDecision};
 pub use draws::Draws;
 use pool_base::OutOfMemory;
 pub use row_table::RowTable;

@@ -11,7 +11,24 @@ pub use Rattle.seat_lock.specs.work.Moves.{LooksAt, NotesAt, drew, gave_way, hel
 pub use Rattle.seat_lock.specs.work.Passes.{IsClosed, claim_of, new_pass}
 pub use Rattle.seat_lock.specs.work.Rule.{Agrees, Claimed, IsHome, IsInTurn, IsOut, Kept, Knows, Laned, Sound, below, lane_weight, ticket_weight, total}
 pub use Rattle.seat_lock.specs.work.Turns.{CanNote, CanServe, IsSameSeat}
-pub use Rattle.seat_lock.specs.work.Views.{IsPass, calls_in, claim, first_claim, first_view, fresh_claims, in_turn, lane_given, lane_view, lanes_joined, lanes_kept, lanes_view, other_claims, pass_value, spent_view, with_stage}
+pub use Rattle.seat_lock.specs.work.Views.{
+  IsPass,
+  calls_in,
+  claim,
+  first_claim,
+  first_view,
+  fresh_claims,
+  in_turn,
+  lane_given,
+  lane_view,
+  lanes_joined,
+  lanes_kept,
+  lanes_view,
+  other_claims,
+  pass_value,
+  spent_view,
+  with_stage,
+}
 pub use lib.ListN.{get_elem?}
 pub use mathlib.Core.Logic.{dite}
 pub use mathlib.Core.Option.{none, some, some-injective, some-ne-none}

@@ -1,5 +1,30 @@
 -- Each position of a log is that of one call of one lane.
-use Rattle.std.proofs.Common.{◌≡◌, ℕ, zero, suc, ◌+◌, ◌<◌, ◌≤◌, ◌==◌, if◌then◌else◌, cond, Bool, List, [], ◌∷◌, length, get_or, filter, count_by, sum_by, nat_lt, sym, refl, ◌∙◌, arith}
+use Rattle.std.proofs.Common.{
+  ◌≡◌,
+  ℕ,
+  zero,
+  suc,
+  ◌+◌,
+  ◌<◌,
+  ◌≤◌,
+  ◌==◌,
+  if◌then◌else◌,
+  cond,
+  Bool,
+  List,
+  [],
+  ◌∷◌,
+  length,
+  get_or,
+  filter,
+  count_by,
+  sum_by,
+  nat_lt,
+  sym,
+  refl,
+  ◌∙◌,
+  arith,
+}
 use Rattle.std.proofs.lemmas.Bool.Decides.{nat_tests}
 use Rattle.seat_lock.proofs.Common.{enumerate_from, LoggedCall, calls_of, below, Laned}
 use Rattle.std.proofs.lemmas.List.Sums.{sum_by-cons}
@@ -65,13 +90,15 @@ module _ {C R : Type 0} (n : ℕ) where
   all_hits : (m : ℕ) (es : List (LoggedCall C R)) (lanes : ℕ) → Laned lanes es → below (hits m es) lanes ≡ in_range n m (length es)
   all_hits m [] lanes l = below-zero lanes
   all_hits m (e ∷ es) lanes l =
-      let cut = below-ext (hits m (e ∷ es)) (λ k. (if e.lane == k then at n m else 0) + hits (m + 1) es k) lanes (λ k. one_more (e.lane == k) (m, e) (filter (λ p. p.1.lane == k) (enumerate_from (m + 1) es))) in
+      let cut = below-ext (hits m (e ∷ es)) (λ k. (if e.lane == k then at n m else 0) + hits (m + 1) es k) lanes
+      (λ k. one_more (e.lane == k) (m, e) (filter (λ p. p.1.lane == k) (enumerate_from (m + 1) es))) in
       let sum = below-sum (λ k. if e.lane == k then at n m else 0) (hits (m + 1) es) lanes in
       let here = pick (at n m) e.lane lanes l.0 in
       let more = all_hits (m + 1) es lanes l.1 in
       cut ∙ sum ∙ (λ i. here i + more i)
 
 -- a number below the length of the log is the position of one call, and another is that of none
-pub each_once : {A C R : Type 0} (n : ℕ) (since : List (LoggedCall C R)) (calls : A → List (ℕ × LoggedCall C R)) (passes : List A) → ((k : ℕ) (d : A) → k < length passes → calls (get_or passes k d) ≡ calls_of k since) → Laned (length passes) since
+pub each_once : {A C R : Type 0} (n : ℕ) (since : List (LoggedCall C R)) (calls : A → List (ℕ × LoggedCall C R)) (passes : List A) →
+    ((k : ℕ) (d : A) → k < length passes → calls (get_or passes k d) ≡ calls_of k since) → Laned (length passes) since
     → sum_by (λ p. count_by (λ c. c.0 == n) (calls p)) passes ≡ (if nat_lt n (length since) then 1 else 0)
 each_once {A} n since calls passes cut laned = grind (arith, nat_tests, sum-below, (all_hits n 0 since), (in_range-is n 0))

@@ -64,7 +64,8 @@ module _ {C R : Type 0} where
   pub lane_weight-append : (h : ℕ → ℕ) (a b : List (Claim C R)) → lane_weight h (a ++ b) ≡ lane_weight h a + lane_weight h b
   lane_weight-append h a b = total-append (λ (c : Claim C R). h c.lane) a b
 
-  pub lane_weight-cut : (h : ℕ → ℕ) (claims : List (Claim C R)) → lane_weight h (first_claim claims) + lane_weight h (other_claims claims) ≡ lane_weight h claims
+  pub lane_weight-cut : (h : ℕ → ℕ) (claims : List (Claim C R)) → lane_weight h (first_claim claims) + lane_weight h (other_claims claims) ≡ lane_weight h
+      claims
   lane_weight-cut h [] = refl
   lane_weight-cut h (c ∷ cs) = omega arith
 

@@ -34,31 +34,38 @@ module _ {O : Type 0} where
   apart_from k (x ∷ xs) none (suc i) d lt = apart_from k xs (omega (arith, sum_by-cons (λ (y : Done O). at k y.piece) x xs, none)) i d (omega arith)
 
   -- where each piece from m on stands once, of so many, and none falls, each stands at its place
-  placed : (done : List (Done O)) (m n : ℕ) → IsNonDecreasingBy (λ d. d.piece) done → All (λ d. (m ≤ d.piece) × (d.piece < m + n)) done → ((k : ℕ) → m ≤ k → k < m + n → count_at k done ≡ 1)
+  placed : (done : List (Done O)) (m n : ℕ) → IsNonDecreasingBy (λ d. d.piece) done → All (λ d. (m ≤ d.piece) × (d.piece < m + n)) done →
+      ((k : ℕ) → m ≤ k → k < m + n → count_at k done ≡ 1)
       → (length done ≡ n) × ((i : ℕ) (d : Done O) → i < n → (get_or done i d).piece ≡ m + i)
   placed [] m zero rises within once = (refl, λ i d lt. absurd (omega arith))
   placed [] m (suc n) rises within once = absurd (let z : 0 ≡ 1 = once m (omega arith) (omega arith) in omega arith)
-  placed (x ∷ xs) m zero rises within once = absurd (let w = within 0 x (omega arith) in let low : m ≤ x.piece = w.0 in let high : x.piece < m + 0 = w.1 in omega arith)
+  placed (x ∷ xs) m zero rises within once = absurd (let w = within 0 x (omega arith) in let low : m ≤ x.piece = w.0 in let high : x.piece < m + 0 =
+      w.1 in omega arith)
   placed (x ∷ xs) m (suc n) rises within once =
       let w = within 0 x (omega arith) in
       let low : m ≤ x.piece = w.0 in
       let cons : (k : ℕ) → count_at k (x ∷ xs) ≡ at k x.piece + count_at k xs = λ k. sum_by-cons (λ (y : Done O). at k y.piece) x xs in
       let first : count_at m (x ∷ xs) ≡ 1 = once m (omega arith) (omega arith) in
       let head : x.piece ≡ m = dite (ℕ_discrete x.piece m) (λ e. e)
-      (λ ne. let none : count_at m (x ∷ xs) ≡ 0 = none_at m (x ∷ xs) (λ i d lt. let r : x.piece ≤ (get_or (x ∷ xs) i d).piece = rises 0 i d (omega arith) lt in omega arith) in absurd (omega arith)) in
+      (λ ne. let none : count_at m (x ∷ xs) ≡ 0 = none_at m (x ∷ xs) (λ i d lt. let r : x.piece ≤ (get_or (x ∷ xs) i d).piece =
+      rises 0 i d (omega arith) lt in omega arith) in absurd (omega arith)) in
       let rest_none : count_at m xs ≡ 0 = (let c = cons m in let one : at m x.piece ≡ 1 = at-one m x.piece head in omega (arith, c, one, first)) in
       let more = placed xs (suc m) n
       (λ i j d le lt. rises (suc i) (suc j) d (omega arith) (omega arith))
-      (λ i d lt. let v = within (suc i) d (omega arith) in let a : m ≤ (get_or xs i d).piece = v.0 in let b : (get_or xs i d).piece < m + suc n = v.1 in let ne : (get_or xs i d).piece ≢ m = apart_from m xs rest_none i d lt in (omega arith, omega arith))
-      (λ k le lt. let c = cons k in let other : at k x.piece ≡ 0 = at-none k x.piece (λ e. omega arith) in let all : count_at k (x ∷ xs) ≡ 1 = once k (omega arith) (omega arith) in omega (arith, c, other, all)) in
+      (λ i d lt. let v = within (suc i) d (omega arith) in let a : m ≤ (get_or xs i d).piece = v.0 in let b : (get_or xs i d).piece < m + suc n =
+      v.1 in let ne : (get_or xs i d).piece ≢ m = apart_from m xs rest_none i d lt in (omega arith, omega arith))
+      (λ k le lt. let c = cons k in let other : at k x.piece ≡ 0 = at-none k x.piece (λ e. omega arith) in let all : count_at k (x ∷ xs) ≡ 1 =
+      once k (omega arith) (omega arith) in omega (arith, c, other, all)) in
       (ap suc more.0, at_place x xs m n head more.1)
     where
-      at_place : (x : Done O) (xs : List (Done O)) (m n : ℕ) → x.piece ≡ m → ((i : ℕ) (d : Done O) → i < n → (get_or xs i d).piece ≡ suc m + i) → (i : ℕ) (d : Done O) → i < suc n → (get_or (x ∷ xs) i d).piece ≡ m + i
+      at_place : (x : Done O) (xs : List (Done O)) (m n : ℕ) → x.piece ≡ m → ((i : ℕ) (d : Done O) → i < n → (get_or xs i d).piece ≡ suc m + i) →
+          (i : ℕ) (d : Done O) → i < suc n → (get_or (x ∷ xs) i d).piece ≡ m + i
       at_place x xs m n head more zero d lt = omega (arith, head)
       at_place x xs m n head more (suc i) d lt = let r : (get_or xs i d).piece ≡ suc m + i = more i d (omega arith) in omega arith
 
   -- the outs of a list that was sorted: as many as pieces, and each right for its piece
-  pub outs_placed : (pieces : ℕ) (right : ℕ → O → Type 0) (done sorted : List (Done O)) (outs : List O) → IsPermutation done sorted → IsNonDecreasingBy (λ d. d.piece) sorted
+  pub outs_placed : (pieces : ℕ) (right : ℕ → O → Type 0) (done sorted : List (Done O)) (outs : List O) → IsPermutation done sorted →
+      IsNonDecreasingBy (λ d. d.piece) sorted
       → outs ≡ map (λ d. d.out) sorted → AreDoneRight pieces right done → EachDoneOnce pieces done → (length outs ≡ pieces) × AreRight right outs
   outs_placed pieces right done sorted outs moved rises is rights once =
       let all = All-permutation (λ (d : Done O). (d.piece < pieces) × right d.piece d.out) done sorted moved rights in

@@ -1,7 +1,45 @@
 -- The names that the proofs of this crate cite from elsewhere, passed on from one place. Declares nothing.
 pub use Rattle.std.proofs.lemmas.Bool.{cases_Bool, cases_eq, cases_lt, false≢true, le-ltb, lt-ltb, ne_eqb, or_parts}
-pub use Rattle.std.proofs.lemmas.List.{drop-append-le, ext_get_or, get_or-append_right, get_or-map, get_or-replicate, get_or-set_other, get_or-set_same, get_or_append_left, get_or_default, get_or_past, get_or_push, get_or_read, length-map, length-replicate, length-set, length_push, map_more, replicate_more, same_lists, take-append-le, take_at, with_items_is}
-pub use Rattle.std.proofs.lemmas.List.Elements.{All-contains, All-contains_itself, All-filter, All-from_get_or, All-head, All-map, All-nil, All-push, All-tail, All-weaker, Contains-append_left, Contains-get_or, Contains-push, Contains-push_cases}
+pub use Rattle.std.proofs.lemmas.List.{
+  drop-append-le,
+  ext_get_or,
+  get_or-append_right,
+  get_or-map,
+  get_or-replicate,
+  get_or-set_other,
+  get_or-set_same,
+  get_or_append_left,
+  get_or_default,
+  get_or_past,
+  get_or_push,
+  get_or_read,
+  length-map,
+  length-replicate,
+  length-set,
+  length_push,
+  map_more,
+  replicate_more,
+  same_lists,
+  take-append-le,
+  take_at,
+  with_items_is,
+}
+pub use Rattle.std.proofs.lemmas.List.Elements.{
+  All-contains,
+  All-contains_itself,
+  All-filter,
+  All-from_get_or,
+  All-head,
+  All-map,
+  All-nil,
+  All-push,
+  All-tail,
+  All-weaker,
+  Contains-append_left,
+  Contains-get_or,
+  Contains-push,
+  Contains-push_cases,
+}
 pub use Rattle.std.proofs.lemmas.List.Sums.{count_by-le-length, length-filter, sum_by-append, sum_by-cons, sum_by-set, sum_by_push}
 pub use Rattle.std.proofs.lemmas.Bool.Decides.{nat_tests}
 pub use Rattle.std.proofs.lemmas.Nat.{mul-add-lt}

@@ -1,6 +1,21 @@
 -- The names that the proofs of this crate cite from elsewhere, passed on from one place. Declares nothing.
 pub use Rattle.std.proofs.lemmas.Bool.{cases_lt, cases_order}
-pub use Rattle.std.proofs.lemmas.List.{drop_all, flat_map_more, get_or-append_right, get_or-map, get_or_append_left, get_or_default, get_or_past, get_or_push, length-map, length_push, map-append, map_push, nil_from_length, take_more}
+pub use Rattle.std.proofs.lemmas.List.{
+  drop_all,
+  flat_map_more,
+  get_or-append_right,
+  get_or-map,
+  get_or_append_left,
+  get_or_default,
+  get_or_past,
+  get_or_push,
+  length-map,
+  length_push,
+  map-append,
+  map_push,
+  nil_from_length,
+  take_more,
+}
 pub use Rattle.std.proofs.lemmas.List.Concat.{flat_map-cons, get_or-flat_map}
 pub use Rattle.std.proofs.lemmas.List.Elements.{All-append, All-cons, All-nil, All-push, Contains-append_left, Contains-append_right, Contains-push}
 pub use Rattle.std.proofs.lemmas.List.Sums.{sum_by-cons, sum_by-take-le, sum_by_push}

@@ -1,5 +1,30 @@
 -- Lists that loops make.
-use Rattle.std.proofs.Common.{◌≡◌, ℕ, ◌+◌, ◌<◌, List, [], ◌∷◌, ◌++◌, length, get_or, map, take, Result, Ok, Err, IfOk, IsErr, sym, ap, ◌∙◌, append_assoc, ◌*◌, ◌≤◌, arith}
+use Rattle.std.proofs.Common.{
+  ◌≡◌,
+  ℕ,
+  ◌+◌,
+  ◌<◌,
+  List,
+  [],
+  ◌∷◌,
+  ◌++◌,
+  length,
+  get_or,
+  map,
+  take,
+  Result,
+  Ok,
+  Err,
+  IfOk,
+  IsErr,
+  sym,
+  ap,
+  ◌∙◌,
+  append_assoc,
+  ◌*◌,
+  ◌≤◌,
+  arith,
+}
 use Rattle.std.proofs.lemmas.Bool.{false≢true}
 use Rattle.trip_graph.proofs.Common.{map-append, take_more}
 use Rattle.std.proofs.lemmas.Bool.Decides.{nat_tests}

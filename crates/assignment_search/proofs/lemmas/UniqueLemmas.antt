@@ -10,10 +10,12 @@ unfolding rank_value
 tried_ranks g j k good lj lk tried = search rules
 
 -- what one greedy plan takes, so does another
-taken_same : (n : ℕ) (g : Graph) (a b : List (Option ℕ)) → IsGoodGraph g → IsGreedy g a → IsGreedy g b → (k : ℕ) → rank_of g k < n → k < length g.rows → IsTaken g a k → IsTaken g b k
+taken_same : (n : ℕ) (g : Graph) (a b : List (Option ℕ)) → IsGoodGraph g → IsGreedy g a → IsGreedy g b → (k : ℕ) → rank_of g k < n → k < length g.rows →
+    IsTaken g a k → IsTaken g b k
 taken_same zero g a b good first second k low l taken = absurd (omega (arith, low))
 taken_same (suc n) g a b good first second k low l taken = (second.taken k l).1
-    (λ j lj tried has. (first.taken k l).0 taken j lj tried (taken_same n g b a good second first j (omega (arith, tried_ranks g j k good lj l tried, low)) lj has))
+    (λ j lj tried has. (first.taken k l).0 taken j lj tried (taken_same n g b a good second first j (omega (arith, tried_ranks g j k good lj l tried, low)) lj
+    has))
 
 pub greedy_unique : (g : Graph) (a b : List (Option ℕ)) → IsGoodGraph g → IsGreedy g a → IsGreedy g b → a ≡ b
 greedy_unique g a b good first second =

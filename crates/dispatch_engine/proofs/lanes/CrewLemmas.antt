@@ -1,6 +1,28 @@
 -- From passes to lanes at work, and back.
 use Rattle.std.proofs.Common.{◌≡◌, ℕ, ◌<◌, ◌≤◌, true, List, [], length, map, All, Result, Ok, Err, ◌∙◌, arith}
-use Rattle.dispatch_engine.proofs.Common.{get_or-map, length-map, BookView, Command, Settings, Roads, NumberedLanes, AreAllPasses, IsNew, IsPassOf, LockValue, BookPass, HasRun, IsLaneRun, at_rest, AreInOrder, HasRunLane, HasWorked, HaveRunLanes, IsToWork, LaneWork}
+use Rattle.dispatch_engine.proofs.Common.{
+  get_or-map,
+  length-map,
+  BookView,
+  Command,
+  Settings,
+  Roads,
+  NumberedLanes,
+  AreAllPasses,
+  IsNew,
+  IsPassOf,
+  LockValue,
+  BookPass,
+  HasRun,
+  IsLaneRun,
+  at_rest,
+  AreInOrder,
+  HasRunLane,
+  HasWorked,
+  HaveRunLanes,
+  IsToWork,
+  LaneWork,
+}
 use Rattle.std.proofs.lemmas.List.Elements.{All-map}
 use Rattle.std.specs.Result.{is_ok, OnOk}
 use Rattle.dispatch_engine.proofs.lanes.PassLemmas.{ran-fresh}
@@ -10,7 +32,8 @@ when-ok (Ok x) P is p = p
 when-ok (Err e) P is p = absurd cc
 
 -- a pass that had made no call has run these commands
-pub lane-run : (settings : Settings) (roads : Roads) (commands : List Command) (old new : BookPass) → old.calls ≡ [] → HasRun settings roads (IsLaneRun commands) old new → HasRunLane settings roads commands new
+pub lane-run : (settings : Settings) (roads : Roads) (commands : List Command) (old new : BookPass) → old.calls ≡ [] →
+    HasRun settings roads (IsLaneRun commands) old new → HasRunLane settings roads commands new
 lane-run settings roads commands old new fresh ran =
     let both = ran-fresh settings roads old new commands ran fresh in
     record { run = both.0; closes = both.1 }
@@ -23,7 +46,8 @@ module _ (book : LockValue BookView) (passes : List BookPass) (all : AreAllPasse
     lane = omega (arith, all.lanes k d lt, all.len, lt, few);
   }
 
-module _ (settings : Settings) (roads : Roads) (round : NumberedLanes) (book : LockValue BookView) (crew : List LaneWork) (worked : All (HasWorked settings roads round book) crew) (order : AreInOrder crew) where
+module _ (settings : Settings) (roads : Roads) (round : NumberedLanes) (book : LockValue BookView) (crew : List LaneWork)
+    (worked : All (HasWorked settings roads round book) crew) (order : AreInOrder crew) where
   of-crew : (k : ℕ) → k < length (map (λ w. w.pass) crew) → k < length crew
   of-crew k lt = omega (arith, length-map crew (λ (w : LaneWork). w.pass))
 

@@ -24,25 +24,30 @@ module _ (nodes : List ℕ) (wait : ℕ) where
   calls-entries s [] = refl
   calls-entries s (e ∷ es) = ap (λ l. e ∷ l) (calls-entries (step nodes wait s e.command).0 es)
 
-  pub replies-later : (s : State) (es later : List Entry) → RepliesAreSteps nodes wait s (es ++ later) → RepliesAreSteps nodes wait (state_after nodes wait s es) later
+  pub replies-later : (s : State) (es later : List Entry) → RepliesAreSteps nodes wait s (es ++ later) →
+      RepliesAreSteps nodes wait (state_after nodes wait s es) later
   unfolding state_after RepliesAreSteps
   replies-later s [] later replies = replies
   replies-later s (e ∷ es) later replies = replies-later (step nodes wait s e.command).0 es later replies.1
 
   -- where the calls of a longer journal are those of a shorter one and more, so are the entries
-  pub gained-entries : (s : State) (es all : List Entry) (more : List (LoggedCall Command LockedReply)) → calls_from nodes wait s all ≡ calls_from nodes wait s es ++ more → all ≡ es ++ map entry_of more
+  pub gained-entries : (s : State) (es all : List Entry) (more : List (LoggedCall Command LockedReply)) →
+      calls_from nodes wait s all ≡ calls_from nodes wait s es ++ more → all ≡ es ++ map entry_of more
   gained-entries s es all more gained =
       sym (calls-entries s all)
       ∙ ap (map entry_of) gained
       ∙ map-append entry_of (calls_from nodes wait s es) more
       ∙ ap (λ l. l ++ map entry_of more) (calls-entries s es)
 
-  pub gained-calls : (s : State) (es all : List Entry) (more : List (LoggedCall Command LockedReply)) → calls_from nodes wait s all ≡ calls_from nodes wait s es ++ more → calls_from nodes wait (state_after nodes wait s es) (map entry_of more) ≡ more
+  pub gained-calls : (s : State) (es all : List Entry) (more : List (LoggedCall Command LockedReply)) →
+      calls_from nodes wait s all ≡ calls_from nodes wait s es ++ more → calls_from nodes wait (state_after nodes wait s es) (map entry_of more) ≡ more
   gained-calls s es all more gained = append_cancel_left (calls_from nodes wait s es) _ _
       (sym (calls-append nodes wait s es (map entry_of more)) ∙ ap (calls_from nodes wait s) (sym (gained-entries s es all more gained)) ∙ gained)
 
-pub finished : ((nodes : List ℕ) (wait : ℕ) (s : State) (round later : List Entry) → state_after nodes wait s (round ++ later) ≡ state_after nodes wait (state_after nodes wait s round) later)
-    → (start book : BookView) (passes : List BookPass) → IsBook start → IsBook book → root_of book ≡ root_of start → GainsCalls (log_of start) (log_of book) passes → IsFinished start passes book
+pub finished : ((nodes : List ℕ) (wait : ℕ) (s : State) (round later : List Entry) → state_after nodes wait s (round ++ later) ≡ state_after nodes wait
+    (state_after nodes wait s round) later)
+    → (start book : BookView) (passes : List BookPass) → IsBook start → IsBook book → root_of book ≡ root_of start →
+    GainsCalls (log_of start) (log_of book) passes → IsFinished start passes book
 finished rounds_join start book passes opened closed root gains =
     let since : List Entry = map entry_of gains.since in
     let gained : calls_from start.nodes start.wait start.base book.entries ≡ log_of start ++ gains.since =
@@ -52,7 +57,8 @@ finished rounds_join start book passes opened closed root gains =
     ap (λ (s : State). calls_from start.nodes start.wait s since) opened.state
     ∙ gained-calls start.nodes start.wait start.base start.entries book.entries gains.since gained in
     let replies : RepliesAreSteps start.nodes start.wait start.base (start.entries ++ since) =
-    subst (λ (es : List Entry). RepliesAreSteps start.nodes start.wait start.base es) entries (subst (λ (r : BookRoot). RepliesAreSteps r.nodes r.wait r.base book.entries) root closed.replies) in
+    subst (λ (es : List Entry). RepliesAreSteps start.nodes start.wait start.base es) entries
+    (subst (λ (r : BookRoot). RepliesAreSteps r.nodes r.wait r.base book.entries) root closed.replies) in
     record {
       nodes = ap (λ (r : BookRoot). r.nodes) root;
       wait = ap (λ (r : BookRoot). r.wait) root;
@@ -60,7 +66,8 @@ finished rounds_join start book passes opened closed root gains =
       base = ap (λ (r : BookRoot). r.base) root;
       since = since;
       entries = entries;
-      replies = subst (λ (s : State). RepliesAreSteps start.nodes start.wait s since) (sym opened.state) (replies-later start.nodes start.wait start.base start.entries since replies);
+      replies = subst (λ (s : State). RepliesAreSteps start.nodes start.wait s since) (sym opened.state)
+          (replies-later start.nodes start.wait start.base start.entries since replies);
       state =
           closed.state
           ∙ ap (λ (r : BookRoot). state_after r.nodes r.wait r.base book.entries) root

@@ -1,6 +1,65 @@
 -- How a pass runs its lane's commands, piece by piece.
-use Rattle.std.proofs.Common.{◌≡◌, ℕ, ◌≤◌, true, List, [], ◌∷◌, ◌++◌, map, Option, Some, None, refl, sym, ap, subst, ◌∙◌, append_assoc, append-nil, true≢false, arith}
-use Rattle.dispatch_engine.proofs.Common.{map-append, All-nil, All-cons, All-append, All-weaker, Batch, IsGoodOutcome, Command, Seal, Close, Entry, Reply, Accepted, Settings, Roads, entry, LoggedCall, LockedReply, entry_of, is_light, sealed_by, BookPass, with_snapshot, HasCalled, HasCalledSome, IsSamePass, IsLaneRunFrom, IsLaneRun, IsLaneBeginning, last_sealed, IsGoodFor, LaneClosesAreGood, HasGained, HasRun, IsPlain, calls_of_pass}
+use Rattle.std.proofs.Common.{
+  ◌≡◌,
+  ℕ,
+  ◌≤◌,
+  true,
+  List,
+  [],
+  ◌∷◌,
+  ◌++◌,
+  map,
+  Option,
+  Some,
+  None,
+  refl,
+  sym,
+  ap,
+  subst,
+  ◌∙◌,
+  append_assoc,
+  append-nil,
+  true≢false,
+  arith,
+}
+use Rattle.dispatch_engine.proofs.Common.{
+  map-append,
+  All-nil,
+  All-cons,
+  All-append,
+  All-weaker,
+  Batch,
+  IsGoodOutcome,
+  Command,
+  Seal,
+  Close,
+  Entry,
+  Reply,
+  Accepted,
+  Settings,
+  Roads,
+  entry,
+  LoggedCall,
+  LockedReply,
+  entry_of,
+  is_light,
+  sealed_by,
+  BookPass,
+  with_snapshot,
+  HasCalled,
+  HasCalledSome,
+  IsSamePass,
+  IsLaneRunFrom,
+  IsLaneRun,
+  IsLaneBeginning,
+  last_sealed,
+  IsGoodFor,
+  LaneClosesAreGood,
+  HasGained,
+  HasRun,
+  IsPlain,
+  calls_of_pass,
+}
 use Rattle.std.proofs.lemmas.Simd.{map-map}
 use Rattle.request_book.specs.declared.values.outcome.Answer.TheVariants.{Overflow}
 use Rattle.request_book.specs.declared.values.outcome.Outcome.{Outcome}
@@ -20,7 +79,8 @@ begun-more cs ds es p =
     (p.0 ++ rest.0, subst (IsLaneRun (cs ++ ds)) (append_assoc es p.0 rest.0) (run-append None cs ds (es ++ p.0) rest.0 p.1 rest.1))
 
 -- a command that is no seal is answered without a batch
-light-unsealed : (nodes : List ℕ) (command : Command) (reply : Reply) (snapshot : Option Batch) → is_light command ≡ true → Fits nodes command (with_snapshot reply snapshot) → sealed_by reply ≡ None
+light-unsealed : (nodes : List ℕ) (command : Command) (reply : Reply) (snapshot : Option Batch) → is_light command ≡ true →
+    Fits nodes command (with_snapshot reply snapshot) → sealed_by reply ≡ None
 light-unsealed nodes command reply None light fits = sym fits.sealed
 light-unsealed nodes command reply (Some b) light fits = absurd (true≢false (sym light ∙ fits.seals b refl))
 
@@ -50,13 +110,15 @@ gained-more a b c xs ys p q =
     let P : ℕ × LoggedCall Command LockedReply → Type 0 = λ e. a.seen ≤ e.0 in
     record {
       calls = q.calls ∙ ap (λ l. l ++ ys) p.calls ∙ append_assoc a.calls xs ys;
-      behind = All-append P xs ys p.behind (All-weaker (λ (e : ℕ × LoggedCall Command LockedReply). b.seen ≤ e.0) P (λ e after. omega (arith, p.seen, after)) ys q.behind);
+      behind = All-append P xs ys p.behind (All-weaker (λ (e : ℕ × LoggedCall Command LockedReply). b.seen ≤ e.0) P (λ e after. omega (arith, p.seen, after)) ys
+          q.behind);
       seen = omega (arith, p.seen, q.seen);
     }
 
 module _ (settings : Settings) (roads : Roads) where
   -- what is good though nothing was sealed before is good after any batch
-  later : (last : Option Batch) (calls : List (LoggedCall Command LockedReply)) → LaneClosesAreGood settings roads None calls → LaneClosesAreGood settings roads last calls
+  later : (last : Option Batch) (calls : List (LoggedCall Command LockedReply)) → LaneClosesAreGood settings roads None calls →
+      LaneClosesAreGood settings roads last calls
   later last [] good = tt
   later last (c ∷ cs) good = (here c.call good.0, by c.reply.snapshot (later last cs) good.1)
     where
@@ -64,11 +126,13 @@ module _ (settings : Settings) (roads : Roads) where
       here (Close batch outcome) g = let none : None ≡ Some g.0 = g.1 in absurd cc
       here _ g = tt
 
-      by : (snapshot : Option Batch) → (LaneClosesAreGood settings roads None cs → LaneClosesAreGood settings roads last cs) → LaneClosesAreGood settings roads (last_sealed None snapshot) cs → LaneClosesAreGood settings roads (last_sealed last snapshot) cs
+      by : (snapshot : Option Batch) → (LaneClosesAreGood settings roads None cs → LaneClosesAreGood settings roads last cs) →
+          LaneClosesAreGood settings roads (last_sealed None snapshot) cs → LaneClosesAreGood settings roads (last_sealed last snapshot) cs
       by None rest g = rest g
       by (Some b) rest g = g
 
-  closes-append : (last : Option Batch) (xs ys : List (LoggedCall Command LockedReply)) → LaneClosesAreGood settings roads last xs → LaneClosesAreGood settings roads None ys → LaneClosesAreGood settings roads last (xs ++ ys)
+  closes-append : (last : Option Batch) (xs ys : List (LoggedCall Command LockedReply)) → LaneClosesAreGood settings roads last xs →
+      LaneClosesAreGood settings roads None ys → LaneClosesAreGood settings roads last (xs ++ ys)
   closes-append last [] ys p q = later last ys q
   closes-append last (x ∷ xs) ys p q = (p.0, closes-append (last_sealed last x.reply.snapshot) xs ys p.1 q)
 
@@ -76,7 +140,8 @@ module _ (settings : Settings) (roads : Roads) where
   runs-none p = record { more = []; gained = gained-same p p (refl, omega arith); run = tt; closes = tt }
 
   -- calls that are so, and then others
-  pub runs-more : (Are Be Both : List Entry → Type 0) → ((es fs : List Entry) → Are es → Be fs → Both (es ++ fs)) → (a b c : BookPass) → HasRun settings roads Are a b → HasRun settings roads Be b c → HasRun settings roads Both a c
+  pub runs-more : (Are Be Both : List Entry → Type 0) → ((es fs : List Entry) → Are es → Be fs → Both (es ++ fs)) → (a b c : BookPass) →
+      HasRun settings roads Are a b → HasRun settings roads Be b c → HasRun settings roads Both a c
   runs-more Are Be Both join a b c p q = record {
     more = p.more ++ q.more;
     gained = gained-more a b c p.more q.more p.gained q.gained;
@@ -85,15 +150,22 @@ module _ (settings : Settings) (roads : Roads) where
   }
 
   -- a run of some commands, and a beginning of a run of more
-  pub begun-after : (a b c : BookPass) (cs ds rest : List Command) → HasRun settings roads (IsLaneRun cs) a b → HasRun settings roads (IsLaneBeginning ds) b c → HasRun settings roads (IsLaneBeginning ((cs ++ ds) ++ rest)) a c
-  begun-after a b c cs ds rest = runs-more (IsLaneRun cs) (IsLaneBeginning ds) (IsLaneBeginning ((cs ++ ds) ++ rest)) (λ es fs p q. begun-more (cs ++ ds) rest (es ++ fs) (begun-next cs ds es fs p q)) a b c
+  pub begun-after : (a b c : BookPass) (cs ds rest : List Command) → HasRun settings roads (IsLaneRun cs) a b → HasRun settings roads (IsLaneBeginning ds) b c →
+      HasRun settings roads (IsLaneBeginning ((cs ++ ds) ++ rest)) a c
+  begun-after a b c cs ds rest = runs-more (IsLaneRun cs) (IsLaneBeginning ds) (IsLaneBeginning ((cs ++ ds) ++ rest))
+      (λ es fs p q. begun-more (cs ++ ds) rest (es ++ fs) (begun-next cs ds es fs p q)) a b c
 
   -- a plain command
-  pub runs-plain : (nodes : List ℕ) (old new : BookPass) (command : Command) (receipt : Receipt) → IsPlain command → HasCalledSome nodes old command receipt new → HasRun settings roads (IsLaneRun (command ∷ [])) old new
+  pub runs-plain : (nodes : List ℕ) (old new : BookPass) (command : Command) (receipt : Receipt) → IsPlain command →
+      HasCalledSome nodes old command receipt new → HasRun settings roads (IsLaneRun (command ∷ [])) old new
   runs-plain nodes old new command receipt plain called = record {
     more = (receipt.position, entry old.lane command (with_snapshot receipt.reply called.snapshot)) ∷ [];
     gained = gained-call nodes old new command receipt.position (with_snapshot receipt.reply called.snapshot) called.called;
-    run = (refl, nothing-left (sealed_by receipt.reply) (light-unsealed nodes command receipt.reply called.snapshot (let light : is_light command ≡ true = grind arith in light) called.called.fits));
+    run = (
+      refl,
+      nothing-left (sealed_by receipt.reply) (light-unsealed nodes command receipt.reply called.snapshot
+          (let light : is_light command ≡ true = grind arith in light) called.called.fits),
+    );
     closes = (here command plain, tt);
   }
     where
@@ -102,7 +174,8 @@ module _ (settings : Settings) (roads : Roads) where
       here _ p = tt
 
   -- a seal that is refused
-  pub runs-refused : (nodes : List ℕ) (old new : BookPass) (now position : ℕ) (reply : Reply) → HasCalled nodes old (Seal now) position (with_snapshot reply None) new → HasRun settings roads (IsLaneRun (Seal now ∷ [])) old new
+  pub runs-refused : (nodes : List ℕ) (old new : BookPass) (now position : ℕ) (reply : Reply) →
+      HasCalled nodes old (Seal now) position (with_snapshot reply None) new → HasRun settings roads (IsLaneRun (Seal now ∷ [])) old new
   runs-refused nodes old new now position reply called = record {
     more = (position, entry old.lane (Seal now) (with_snapshot reply None)) ∷ [];
     gained = gained-call nodes old new (Seal now) position (with_snapshot reply None) called;
@@ -112,10 +185,15 @@ module _ (settings : Settings) (roads : Roads) where
 
   -- a seal, and the close of its batch
   pub runs-sealed : (nodes : List ℕ) (old between new : BookPass) (now position : ℕ) (reply : Reply) (b : Batch) (outcome : Outcome) (receipt : Receipt)
-      → HasCalled nodes old (Seal now) position (with_snapshot reply (Some b)) between → HasCalledSome nodes between (Close b.number outcome) receipt new → IsGoodOutcome settings roads b outcome → HasRun settings roads (IsLaneRun (Seal now ∷ [])) old new
+      → HasCalled nodes old (Seal now) position (with_snapshot reply (Some b)) between → HasCalledSome nodes between (Close b.number outcome) receipt new →
+      IsGoodOutcome settings roads b outcome → HasRun settings roads (IsLaneRun (Seal now ∷ [])) old new
   runs-sealed nodes old between new now position reply b outcome receipt sealed closed good =
       let first : ℕ × LoggedCall Command LockedReply = (position, entry old.lane (Seal now) (with_snapshot reply (Some b))) in
-      let second : ℕ × LoggedCall Command LockedReply = (receipt.position, entry between.lane (Close b.number outcome) (with_snapshot receipt.reply closed.snapshot)) in
+      let second : ℕ × LoggedCall Command LockedReply = (
+        receipt.position,
+        entry between.lane (Close b.number outcome)
+            (with_snapshot receipt.reply closed.snapshot),
+      ) in
       let second_entry : Entry = entry_of second.1 in
       record {
         more = first ∷ second ∷ [];
@@ -137,20 +215,23 @@ module _ (settings : Settings) (roads : Roads) where
 
   -- a seal whose batch isn't closed yet
   pub begun-sealed : (nodes : List ℕ) (old between new : BookPass) (now position : ℕ) (reply : Reply) (b : Batch)
-      → HasCalled nodes old (Seal now) position (with_snapshot reply (Some b)) between → IsSamePass between new → HasRun settings roads (IsLaneBeginning (Seal now ∷ [])) old new
+      → HasCalled nodes old (Seal now) position (with_snapshot reply (Some b)) between → IsSamePass between new →
+      HasRun settings roads (IsLaneBeginning (Seal now ∷ [])) old new
   begun-sealed nodes old between new now position reply b sealed same =
       let first : ℕ × LoggedCall Command LockedReply = (position, entry old.lane (Seal now) (with_snapshot reply (Some b))) in
       let outcome : Outcome = record { expired = []; answer = Overflow } in
       let close : Entry = record { lane = 0; command = Close b.number outcome; reply = Accepted } in
       record {
         more = first ∷ [];
-        gained = gained-more old between new (first ∷ []) [] (gained-call nodes old between (Seal now) position (with_snapshot reply (Some b)) sealed) (gained-same between new same);
+        gained = gained-more old between new (first ∷ []) [] (gained-call nodes old between (Seal now) position (with_snapshot reply (Some b)) sealed)
+            (gained-same between new same);
         run = (close ∷ [], (refl, subst (λ (o : Option ℕ). IsLaneRunFrom o [] (close ∷ [])) sealed.fits.sealed (refl, tt)));
         closes = (tt, tt);
       }
 
   -- a pass that had made no call
-  pub ran-fresh : (old new : BookPass) (commands : List Command) → HasRun settings roads (IsLaneRun commands) old new → old.calls ≡ [] → IsLaneRun commands (map entry_of (calls_of_pass new)) × LaneClosesAreGood settings roads None (calls_of_pass new)
+  pub ran-fresh : (old new : BookPass) (commands : List Command) → HasRun settings roads (IsLaneRun commands) old new → old.calls ≡ [] →
+      IsLaneRun commands (map entry_of (calls_of_pass new)) × LaneClosesAreGood settings roads None (calls_of_pass new)
   ran-fresh old new commands p fresh =
       let calls : new.calls ≡ p.more = p.gained.calls ∙ ap (λ l. l ++ p.more) fresh in
       (rw (calls, map-map) p.run, rw calls p.closes)

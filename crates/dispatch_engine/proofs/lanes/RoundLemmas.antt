@@ -1,6 +1,34 @@
 -- From the lanes of a round to its journal.
 use Rattle.std.proofs.Common.{◌≡◌, ◌≢◌, ℕ, ◌<◌, ◌≤◌, List, [], ◌++◌, length, sym, ap, subst, ◌∙◌, Result, Ok, Err, OnErr}
-use Rattle.dispatch_engine.proofs.Common.{AllByRecursion, BookView, IsBook, IsSameBook, state_after, RepliesAreSteps, Command, Entry, State, Settings, Roads, IsRound, MayStand, NumberedLanes, lane_at, BookPass, IsFinished, of_lane, ClosesAreGood, IsLaneRun, IsReady, IsRoundRun, IsSameRun, journal_of, HaveRunLanes, IsPlain, IsJointRun}
+use Rattle.dispatch_engine.proofs.Common.{
+  AllByRecursion,
+  BookView,
+  IsBook,
+  IsSameBook,
+  state_after,
+  RepliesAreSteps,
+  Command,
+  Entry,
+  State,
+  Settings,
+  Roads,
+  IsRound,
+  MayStand,
+  NumberedLanes,
+  lane_at,
+  BookPass,
+  IsFinished,
+  of_lane,
+  ClosesAreGood,
+  IsLaneRun,
+  IsReady,
+  IsRoundRun,
+  IsSameRun,
+  journal_of,
+  HaveRunLanes,
+  IsPlain,
+  IsJointRun,
+}
 use Rattle.std.proofs.lemmas.List.Elements.{recursion_from_All}
 use Rattle.std.specs.List.{All}
 use Rattle.dispatch_engine.proofs.lemmas.lanes.LaneLemmas.{joined}
@@ -16,8 +44,10 @@ all-plain : (lane : ℕ) (commands : List Command) → lane ≢ 0 → All (MaySt
 all-plain lane commands other stand = recursion_from_All IsPlain commands (λ k d lt. stands-plain lane _ other (stand k d lt))
 
 -- a round whose lanes have run
-module _ (settings : Settings) (roads : Roads) (round : NumberedLanes) (start book : BookView) (passes : List BookPass) (done : IsFinished start passes book) (ready : IsReady settings roads start)
-    (kept : IsRound round) (some : 0 < length passes) (rest : (lane : ℕ) → length passes ≤ lane → lane_at round lane ≡ []) (ran : HaveRunLanes settings roads round passes) where
+module _ (settings : Settings) (roads : Roads) (round : NumberedLanes) (start book : BookView) (passes : List BookPass) (done : IsFinished start passes book)
+    (ready : IsReady settings roads start)
+    (kept : IsRound round) (some : 0 < length passes) (rest : (lane : ℕ) → length passes ≤ lane → lane_at round lane ≡ [])
+    (ran : HaveRunLanes settings roads round passes) where
   joint : IsJointRun settings roads start.state (lane_at round) done.since
   joint = joined settings roads (lane_at round) start book passes ready done (record {
     some = some;
@@ -35,7 +65,8 @@ module _ (settings : Settings) (roads : Roads) (round : NumberedLanes) (start bo
       let P : List ℕ → ℕ → Type 0 = λ ns w. RepliesAreSteps ns w book.base book.entries in
       record {
         replies = subst (λ ns. P ns settings.wait) (done.nodes ∙ ready.nodes) (subst (λ w. P book.nodes w) (done.wait ∙ ready.wait) after.replies);
-        closes = subst (λ (s : State). ClosesAreGood settings roads s book.entries) base (subst (λ (es : List Entry). ClosesAreGood settings roads start.state es) (sym since) joint.closes);
+        closes = subst (λ (s : State). ClosesAreGood settings roads s book.entries) base (subst
+            (λ (es : List Entry). ClosesAreGood settings roads start.state es) (sym since) joint.closes);
         lanes = λ lane. subst (λ (es : List Entry). IsLaneRun (lane_at round lane) (of_lane lane es)) (sym since) (joint.lanes lane);
       }
 

@@ -1,6 +1,63 @@
 -- Of two runs of the same commands in one lane: which seals are answered with which batch doesn't depend on what batches gave.
-use Rattle.std.proofs.Common.{rules, ◌≡◌, ◌≢◌, ℕ, suc, Bool, true, false, cond, eqb, List, [], ◌∷◌, Option, Some, None, refl, sym, ap, subst, ◌∙◌, inl, inr, arith, All, option_map}
-use Rattle.dispatch_engine.proofs.Common.{AllZip, cases_eq, nat_tests, Batch, next_position, state_after, RepliesAreSteps, batch_of, sealed_state, step, seal, close, Command, Seal, Close, Entry, Journal, State, Settings, Roads, NumberedLanes, lane_at, sealed_by, of_lane, IsCloseOf, IsLaneRunFrom, IsLaneRun, IsRoundRun, IsRun}
+use Rattle.std.proofs.Common.{
+  rules,
+  ◌≡◌,
+  ◌≢◌,
+  ℕ,
+  suc,
+  Bool,
+  true,
+  false,
+  cond,
+  eqb,
+  List,
+  [],
+  ◌∷◌,
+  Option,
+  Some,
+  None,
+  refl,
+  sym,
+  ap,
+  subst,
+  ◌∙◌,
+  inl,
+  inr,
+  arith,
+  All,
+  option_map,
+}
+use Rattle.dispatch_engine.proofs.Common.{
+  AllZip,
+  cases_eq,
+  nat_tests,
+  Batch,
+  next_position,
+  state_after,
+  RepliesAreSteps,
+  batch_of,
+  sealed_state,
+  step,
+  seal,
+  close,
+  Command,
+  Seal,
+  Close,
+  Entry,
+  Journal,
+  State,
+  Settings,
+  Roads,
+  NumberedLanes,
+  lane_at,
+  sealed_by,
+  of_lane,
+  IsCloseOf,
+  IsLaneRunFrom,
+  IsLaneRun,
+  IsRoundRun,
+  IsRun,
+}
 use Rattle.std.proofs.lemmas.Bool.{eq-eqb}
 use Rattle.request_book.specs.declared.values.outcome.Outcome.{Outcome}
 use Rattle.dispatch_engine.specs.lanes.Same.{IsInLaneZero, IsSameCommand, HaveSameCommands}
@@ -36,7 +93,11 @@ module _ (nodes : List ℕ) (wait : ℕ) where
 
   close-agrees : (s t : State) (batch : ℕ) (o p : Outcome) → IsSameClock s t → Agrees s t (Close batch o) (Close batch p)
   unfolding step close
-  close-agrees s t batch o p same = record { clock = record { last = grind arith; open' = grind (arith, nat_tests); batches = grind arith }; told = grind arith }
+  close-agrees s t batch o p same = record {
+    clock = record { last = grind arith; open' = grind (arith, nat_tests); batches = grind arith };
+    told =
+        grind arith;
+  }
 
   closes-agree : (s t : State) (batch : ℕ) (c d : Command) → IsCloseOf batch c → IsCloseOf batch d → IsSameClock s t → Agrees s t c d
   closes-agree s t batch (Close a o) (Close b p) c d same = subst (λ n. Agrees s t (Close a o) (Close n p)) (c ∙ sym d) (close-agrees s t a o p same)
@@ -50,7 +111,12 @@ module _ (nodes : List ℕ) (wait : ℕ) where
       let a = plain-quiet nodes wait s c tt in
       let b = plain-quiet nodes wait t c tt in
       record {
-        clock = record { last = a.last ∙ same.last ∙ sym b.last; open' = ap number_of a.sealed ∙ same.open' ∙ sym (ap number_of b.sealed); batches = a.batches ∙ same.batches ∙ sym b.batches };
+        clock = record {
+          last = a.last ∙ same.last ∙ sym b.last;
+          open' = ap number_of a.sealed ∙ same.open' ∙ sym (ap number_of b.sealed);
+          batches = a.batches ∙
+              same.batches ∙ sym b.batches;
+        };
         told = a.told ∙ sym b.told;
       }
 
@@ -73,10 +139,12 @@ module _ (nodes : List ℕ) (wait : ℕ) where
       let here = subst (λ d. Agrees s t e.command d) (sym is) (agrees s t e.command same) in
       let told : sealed_by f.reply ≡ sealed_by e.reply = ap sealed_by q.0 ∙ sym here.told ∙ ap sealed_by (sym p.0) in
       one-more s t e f es fs (subst (λ d. IsSameCommand e.command d) (sym is) (same-self e.command))
-      (runs-same (step nodes wait s e.command).0 (step nodes wait t f.command).0 (sealed_by e.reply) cs es fs here.clock p.1 q.1 a.1 (subst (λ o. IsLaneRunFrom o cs fs) told b.1))
+      (runs-same (step nodes wait s e.command).0 (step nodes wait t f.command).0 (sealed_by e.reply) cs es fs here.clock p.1 q.1 a.1
+      (subst (λ o. IsLaneRunFrom o cs fs) told b.1))
   runs-same s t (Some batch) cs (e ∷ es) (f ∷ fs) same p q a b =
       let here = closes-agree s t batch e.command f.command a.0 b.0 same in
-      one-more s t e f es fs (closes-same batch e.command f.command a.0 b.0) (runs-same (step nodes wait s e.command).0 (step nodes wait t f.command).0 None cs es fs here.clock p.1 q.1 a.1 b.1)
+      one-more s t e f es fs (closes-same batch e.command f.command a.0 b.0) (runs-same (step nodes wait s e.command).0 (step nodes wait t f.command).0 None cs
+      es fs here.clock p.1 q.1 a.1 b.1)
   runs-same s t _ _ _ _ same p q a b = search rules
 
 -- where only lane 0 has entries, all entries are lane 0's
@@ -98,7 +166,8 @@ run-nil (e ∷ es) run = absurd run
 module _ (settings : Settings) (roads : Roads) where
   lane-zero : (round : NumberedLanes) (j : Journal) → IsInLaneZero round → IsRoundRun settings roads round j → IsLaneRun (lane_at round 0) j.entries
   lane-zero round j zeroth run =
-      subst (IsLaneRun (lane_at round 0)) (all-zero j.entries (λ k ne. run-nil (of_lane k j.entries) (subst (λ cs. IsLaneRun cs (of_lane k j.entries)) (zeroth k ne) (run.lanes k)))) (run.lanes 0)
+      subst (IsLaneRun (lane_at round 0)) (all-zero j.entries (λ k ne. run-nil (of_lane k j.entries)
+      (subst (λ cs. IsLaneRun cs (of_lane k j.entries)) (zeroth k ne) (run.lanes k)))) (run.lanes 0)
 
   journals-same : (s t : State) (round : NumberedLanes) (j k : Journal) → IsSameClock s t → IsInLaneZero round → j.base ≡ s → k.base ≡ t
       → IsRoundRun settings roads round j → IsRoundRun settings roads round k → AreSame roads.nodes settings.wait s t j.entries k.entries
@@ -112,10 +181,14 @@ module _ (settings : Settings) (roads : Roads) where
       → IsRun settings roads s p rounds one → IsRun settings roads t q rounds other → AllZip HaveSameCommands one other
   rounds-same s t p q [] [] [] same zeroth a b = tt
   rounds-same s t p q (r ∷ rs) (j ∷ js) (k ∷ ks) same zeroth a b =
-      let here = journals-same s t r j k same (zeroth 0 r (omega arith)) a.0 b.0 a.2 b.2 in
-      (here.commands, rounds-same (state_after roads.nodes settings.wait s j.entries) (state_after roads.nodes settings.wait t k.entries) (next_position p j.entries) (next_position q k.entries) rs js ks here.clock (λ n d lt. zeroth (suc n) d (omega (arith, lt))) a.3 b.3)
+      let here = journals-same s t r j k same (zeroth 0 r (omega arith)) a.0 b.0 a.2 b.2 in (
+        here.commands,
+        rounds-same (state_after roads.nodes settings.wait s j.entries) (state_after roads.nodes settings.wait t k.entries)
+            (next_position p j.entries) (next_position q k.entries) rs js ks here.clock (λ n d lt. zeroth (suc n) d (omega (arith, lt))) a.3 b.3,
+      )
   rounds-same s t p q _ _ _ same zeroth a b = search rules
 
   pub commands-same : (s : State) (position : ℕ) (rounds : List NumberedLanes) (one other : List Journal) → All IsInLaneZero rounds
       → IsRun settings roads s position rounds one → IsRun settings roads s position rounds other → AllZip HaveSameCommands one other
-  commands-same s position rounds one other zeroth a b = rounds-same s s position position rounds one other (record { last = refl; open' = refl; batches = refl }) zeroth a b
+  commands-same s position rounds one other zeroth a b = rounds-same s s position position rounds one other
+      (record { last = refl; open' = refl; batches = refl }) zeroth a b

@@ -13,14 +13,16 @@ module _ (b : Batch) (points : List ℕ) (p : ArePoints b points) where
   pub rider_places : All (λ (r : Rider). IsBetweenPlaces points r.origin r.destination) b.riders
   rider_places k d h =
       let r = get_or b.riders k d in
-      let named = λ (y : ℕ) (c : Contains (rider_nodes r) y). (p.named y).1 (Contains-append_right (flat_map vehicle_nodes b.vehicles) (flat_map rider_nodes b.riders) y (in_flat_map rider_nodes b.riders k d y h c)) in
+      let named = λ (y : ℕ) (c : Contains (rider_nodes r) y). (p.named y).1 (Contains-append_right (flat_map vehicle_nodes b.vehicles)
+      (flat_map rider_nodes b.riders) y (in_flat_map rider_nodes b.riders k d y h c)) in
       record { origin_named = named r.origin (0, omega arith, refl); destination_named = named r.destination (1, omega arith, refl) }
 
   -- the vehicles' places
   pub vehicle_places : All (HasVehiclePlaces points) b.vehicles
   vehicle_places k d h =
       let v = get_or b.vehicles k d in
-      let named = λ (y : ℕ) (c : Contains (vehicle_nodes v) y). (p.named y).1 (Contains-append_left (flat_map vehicle_nodes b.vehicles) (flat_map rider_nodes b.riders) y (in_flat_map vehicle_nodes b.vehicles k d y h c)) in
+      let named = λ (y : ℕ) (c : Contains (vehicle_nodes v) y). (p.named y).1 (Contains-append_left (flat_map vehicle_nodes b.vehicles)
+      (flat_map rider_nodes b.riders) y (in_flat_map vehicle_nodes b.vehicles k d y h c)) in
       record {
         node = named v.node (0, omega arith, refl);
         aboard = λ i e lt.

@@ -1,6 +1,26 @@
 use Rattle.std.proofs.lemmas.Bool.Decides.{nat_tests}
 use Rattle.std.proofs.Common.{rules, ◌≡◌, ℕ, ◌+◌, ◌<◌, ◌≤◌, List, [], ◌∷◌, ◌++◌, length, map, get_or, ap, ◌∙◌, arith, zero-add}
-use Rattle.dispatch_engine.proofs.Common.{length-map, get_or-map, Rider, Leg, SettledRider, SettledVehicle, IsLeg, IsTask, no_rider, vehicle_task, slice_get-get_or, Settings, request_at, no_request, kept_leg, ArePlain, CanBeKept, promised_limit, kept_legs}
+use Rattle.dispatch_engine.proofs.Common.{
+  length-map,
+  get_or-map,
+  Rider,
+  Leg,
+  SettledRider,
+  SettledVehicle,
+  IsLeg,
+  IsTask,
+  no_rider,
+  vehicle_task,
+  slice_get-get_or,
+  Settings,
+  request_at,
+  no_request,
+  kept_leg,
+  ArePlain,
+  CanBeKept,
+  promised_limit,
+  kept_legs,
+}
 use Rattle.std.specs.List.{All, sum_by}
 use Rattle.std.proofs.lemmas.List.Sums.{sum_by-append}
 
@@ -24,12 +44,14 @@ pub kept_legs_valid : (points wait : ℕ) (requests : List Rider) (riders : List
 kept_legs_valid points wait requests riders trip can within = search (rules, legs_valid, kept_leg_valid)
 
 -- a vehicle's task with valid legs is valid
-pub task_with_legs : (points dwell : ℕ) (v : SettledVehicle) (legs : List Leg) → IsTask points (vehicle_task dwell v []) → All (IsLeg points) legs → length legs ≤ 6
+pub task_with_legs : (points dwell : ℕ) (v : SettledVehicle) (legs : List Leg) → IsTask points (vehicle_task dwell v []) → All (IsLeg points) legs →
+    length legs ≤ 6
     → IsTask points (vehicle_task dwell v legs)
 task_with_legs points dwell v legs task valid few = search rules
 
 -- a plain rider's leg can have its pickup changed
-pub plain_can_be_kept : (settings : Settings) (points : List ℕ) (tau : ℕ → ℕ → ℕ) (requests : List Rider) (riders : List SettledRider) → ArePlain settings points tau requests riders
+pub plain_can_be_kept : (settings : Settings) (points : List ℕ) (tau : ℕ → ℕ → ℕ) (requests : List Rider) (riders : List SettledRider) →
+    ArePlain settings points tau requests riders
     → (k : ℕ) → k < length requests → CanBeKept (length points) settings.wait (request_at requests k) (get_or riders k no_rider).leg
 plain_can_be_kept settings points tau requests riders plain k h =
     let one = plain.each k (request_at requests k) (slice_get-get_or requests k no_request h) in

@@ -1,5 +1,25 @@
 use Rattle.std.proofs.Common.{◌≡◌, ℕ, ◌≤◌, ◌==◌, true, not, ◌&&◌, nat_le, List, [], Result, Ok, Err, Contains, eqb, length, get_or, refl, subst, ◌∙◌, arith}
-use Rattle.input_rows.proofs.Common.{not-false, and_parts, get_or_default, Any-from_list_any, list_any_at, Vehicle, HasSeats, Seats, UnknownNode, Duplicate, ◌>>=◌, refused_where, number_in, number_at, then_ok, refused_where-passed, vehicle_in, empty_vehicle, has_node}
+use Rattle.input_rows.proofs.Common.{
+  not-false,
+  and_parts,
+  get_or_default,
+  Any-from_list_any,
+  list_any_at,
+  Vehicle,
+  HasSeats,
+  Seats,
+  UnknownNode,
+  Duplicate,
+  ◌>>=◌,
+  refused_where,
+  number_in,
+  number_at,
+  then_ok,
+  refused_where-passed,
+  vehicle_in,
+  empty_vehicle,
+  has_node,
+}
 use Rattle.input_rows.specs.declared.fleet.fault.FleetFault.TheVariants.{Number}
 use Rattle.std.specs.Bool.{Decides}
 use Rattle.std.specs.List.{list_any}
@@ -14,7 +34,8 @@ pub record IsNewVehicle (nodes : List ℕ) (fields : List (List ℕ)) (vehicle :
   pub named : has_node nodes vehicle.node ≡ true
   pub id : vehicle.id ≡ number_at fields 0
 
-pub IsNewVehicle-vehicle_in : (nodes : List ℕ) (row : ℕ) (fields : List (List ℕ)) (vehicle : Vehicle) → vehicle_in nodes [] row fields ≡ Ok vehicle → IsNewVehicle nodes fields vehicle
+pub IsNewVehicle-vehicle_in : (nodes : List ℕ) (row : ℕ) (fields : List (List ℕ)) (vehicle : Vehicle) → vehicle_in nodes [] row fields ≡ Ok vehicle →
+    IsNewVehicle nodes fields vehicle
 unfolding vehicle_in
 IsNewVehicle-vehicle_in nodes row fields vehicle is =
     then_ok (number_in Number row fields 0) _ vehicle (IsNewVehicle nodes fields vehicle) is (λ id named is.
@@ -24,7 +45,8 @@ IsNewVehicle-vehicle_in nodes row fields vehicle is =
     then_ok (refused_where (not (nat_le 1 seats && nat_le seats 10)) (Seats row)) _ vehicle (IsNewVehicle nodes fields vehicle) is (λ u fit is.
     then_ok (refused_where (not (has_node nodes node)) (UnknownNode row)) _ vehicle (IsNewVehicle nodes fields vehicle) is (λ v known is.
     let same : empty_vehicle id seats node time ≡ vehicle = cc in
-    let range = and_parts (nat_le 1 seats) (nat_le seats 10) (not-false (nat_le 1 seats && nat_le seats 10) (refused_where-passed (not (nat_le 1 seats && nat_le seats 10)) (Seats row) u fit)) in
+    let range = and_parts (nat_le 1 seats) (nat_le seats 10) (not-false (nat_le 1 seats && nat_le seats 10)
+    (refused_where-passed (not (nat_le 1 seats && nat_le seats 10)) (Seats row) u fit)) in
     let least : 1 ≤ seats = leb-true 1 seats range.0 in
     let most : seats ≤ 10 = leb-true seats 10 range.1 in
     subst (IsNewVehicle nodes fields) same (record {
@@ -34,13 +56,15 @@ IsNewVehicle-vehicle_in nodes row fields vehicle is =
       named = not-false (has_node nodes node) (refused_where-passed (not (has_node nodes node)) (UnknownNode row) v known);
     })))))))
 
-after : {A B C : Type 0} (r : Result A FleetFault) (whole : A → Result C FleetFault) (front : A → Result B FleetFault) (last : B → Result C FleetFault) → ((x : A) → whole x ≡ (front x >>= last)) → (r >>= whole) ≡ ((r >>= front) >>= last)
+after : {A B C : Type 0} (r : Result A FleetFault) (whole : A → Result C FleetFault) (front : A → Result B FleetFault) (last : B → Result C FleetFault) →
+    ((x : A) → whole x ≡ (front x >>= last)) → (r >>= whole) ≡ ((r >>= front) >>= last)
 after (Ok x) whole front last each = each x
 after (Err fault) whole front last each = refl
 
 -- that an earlier row has the vehicle is the last refusal of a row
 pub vehicle_in-last : (nodes : List ℕ) (earlier : List (List (List ℕ))) (row : ℕ) (fields : List (List ℕ)) →
-    vehicle_in nodes earlier row fields ≡ (vehicle_in nodes [] row fields >>= λ vehicle. refused_where (list_any (λ before. number_at before 0 == vehicle.id) earlier) (Duplicate row) >>= λ _. Ok vehicle)
+    vehicle_in nodes earlier row fields ≡ (vehicle_in nodes [] row fields >>= λ vehicle. refused_where
+    (list_any (λ before. number_at before 0 == vehicle.id) earlier) (Duplicate row) >>= λ _. Ok vehicle)
 unfolding vehicle_in
 vehicle_in-last nodes earlier row fields =
     after (number_in Number row fields 0) _ _ last (λ id. after (number_in Number row fields 1) _ _ last (λ seats.

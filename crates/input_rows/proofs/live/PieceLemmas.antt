@@ -1,5 +1,39 @@
 -- A line that is read piece by piece.
-use Rattle.std.proofs.Common.{◌≡◌, ℕ, ◌+◌, ◌-◌, ◌<◌, ◌≤◌, true, false, List, [], ◌∷◌, ◌++◌, Option, None, Some, length, get_or, take, drop, map, sym, ap, subst, ◌∙◌, append_assoc, append-nil, arith, inl, inr, length-take, length-drop, nat_lt, min}
+use Rattle.std.proofs.Common.{
+  ◌≡◌,
+  ℕ,
+  ◌+◌,
+  ◌-◌,
+  ◌<◌,
+  ◌≤◌,
+  true,
+  false,
+  List,
+  [],
+  ◌∷◌,
+  ◌++◌,
+  Option,
+  None,
+  Some,
+  length,
+  get_or,
+  take,
+  drop,
+  map,
+  sym,
+  ap,
+  subst,
+  ◌∙◌,
+  append_assoc,
+  append-nil,
+  arith,
+  inl,
+  inr,
+  length-take,
+  length-drop,
+  nat_lt,
+  min,
+}
 use Rattle.std.specs.Io.KnownBytes.{prepend_known, Consumes, IsAtEnd, Keeps}
 use Rattle.std.proofs.KnownBytes.{Consumes-kept, Consumes-trans}
 use Rattle.std.proofs.lemmas.Bool.{cases_Bool}
@@ -12,7 +46,8 @@ use Rattle.input_rows.specs.live.Lines.{bytes_to_come, ends_line, front_of, line
 use Rattle.input_rows.specs.work.live.Pieces.{EndsNoLine, HasTaken, TakesPiece}
 
 -- of the bytes at hand the first are taken
-consumes-front : (left : Option (List ℕ)) (ahead piece rest : List ℕ) → ahead ≡ piece ++ rest → Consumes (prepend_known ahead left) (prepend_known rest left) piece
+consumes-front : (left : Option (List ℕ)) (ahead piece rest : List ℕ) → ahead ≡ piece ++ rest →
+    Consumes (prepend_known ahead left) (prepend_known rest left) piece
 consumes-front None ahead piece rest is = tt
 consumes-front (Some xs) ahead piece rest is = ap (λ l. l ++ xs) is ∙ append_assoc piece rest xs
 
@@ -33,7 +68,8 @@ front-more gone piece =
     ]
 
 -- a piece is added as far as the front goes
-pub front-joined : (line piece : List ℕ) (count : ℕ) → length line ≤ 65537 → count ≡ min (65537 - length line) (length piece) → line ++ take count piece ≡ front_of (line ++ piece)
+pub front-joined : (line piece : List ℕ) (count : ℕ) → length line ≤ 65537 → count ≡ min (65537 - length line) (length piece) →
+    line ++ take count piece ≡ front_of (line ++ piece)
 front-joined line piece count short is =
     let whole : length line + (65537 - length line) ≡ 65537 = omega (arith, short) in
     ap (λ n. line ++ take n piece) is ∙ ap (λ l. line ++ l) (take_min (65537 - length line) piece)
@@ -63,15 +99,23 @@ pub piece-inner : (left : Option (List ℕ)) (buffer : List ℕ) (at filled end 
 piece-inner left buffer at filled end before after whole within none front =
     let ahead : List ℕ = take (filled - at) (drop at buffer) in
     let rest : drop end ahead ≡ take (filled - (at + end)) (drop (at + end) buffer) = at-hand buffer at filled end (omega (arith, whole)) in
-    let split : ahead ≡ take end ahead ++ take (filled - (at + end)) (drop (at + end) buffer) = sym (take-append-drop end ahead) ∙ ap (λ l. take end ahead ++ l) rest in
+    let split : ahead ≡ take end ahead ++ take (filled - (at + end)) (drop (at + end) buffer) = sym (take-append-drop end ahead) ∙
+    ap (λ l. take end ahead ++ l) rest in
     TakesPiece.inner (take end ahead) none front (consumes-front left ahead _ _ split)
 
 -- the same bytes to come
 pub taken-kept : (old now next : Option (List ℕ)) (line : List ℕ) → HasTaken old now line → Keeps now next → HasTaken old next line
-taken-kept old now next line taken kept = record { gone = taken.gone; inside = taken.inside; front = taken.front; took = Consumes-kept old now next taken.gone taken.took kept }
+taken-kept old now next line taken kept = record {
+  gone = taken.gone;
+  inside = taken.inside;
+  front = taken.front;
+  took =
+      Consumes-kept old now next taken.gone taken.took kept;
+}
 
 -- one more piece inside the line
-pub taken-more : (old now next : Option (List ℕ)) (before after : List ℕ) → HasTaken old now before → TakesPiece now next before after false → HasTaken old next after
+pub taken-more : (old now next : Option (List ℕ)) (before after : List ℕ) → HasTaken old now before → TakesPiece now next before after false →
+    HasTaken old next after
 taken-more old now next before after taken (TakesPiece.inner piece none front took) = record {
   gone = taken.gone ++ piece;
   inside = All-append (λ b. ends_line b ≡ false) taken.gone piece taken.inside none;
@@ -80,7 +124,8 @@ taken-more old now next before after taken (TakesPiece.inner piece none front to
 }
 
 -- the line with its end
-line-ends : (old next : Option (List ℕ)) (line gone : List ℕ) (end : ℕ) → EndsNoLine gone → ends_line end ≡ true → line ≡ front_of gone → Consumes old next (gone ++ end ∷ []) → TakesLine true old next line
+line-ends : (old next : Option (List ℕ)) (line gone : List ℕ) (end : ℕ) → EndsNoLine gone → ends_line end ≡ true → line ≡ front_of gone →
+    Consumes old next (gone ++ end ∷ []) → TakesLine true old next line
 line-ends None next line gone end none here front took = tt
 line-ends (Some text) None line gone end none here front took = absurd took
 line-ends (Some text) (Some rest) line gone end none here front took =
@@ -88,10 +133,12 @@ line-ends (Some text) (Some rest) line gone end none here front took =
     ∙ ap (map front_of) (slice_split_at ends_line gone end rest none here)
     ∙ ap (λ l. l ∷ lines_in rest) (sym front)
 
-pub taken-ended : (old now next : Option (List ℕ)) (before after : List ℕ) → HasTaken old now before → TakesPiece now next before after true → TakesLine true old next after
+pub taken-ended : (old now next : Option (List ℕ)) (before after : List ℕ) → HasTaken old now before → TakesPiece now next before after true →
+    TakesLine true old next after
 taken-ended old now next before after taken (TakesPiece.ended piece end none here front took) =
     let all = Consumes-trans old now next taken.gone (piece ++ end ∷ []) taken.took took in
-    let joined : Consumes old next ((taken.gone ++ piece) ++ end ∷ []) = subst (λ l. Consumes old next l) (sym (append_assoc taken.gone piece (end ∷ []))) all in
+    let joined : Consumes old next ((taken.gone ++ piece) ++ end ∷ []) = subst (λ l. Consumes old next l) (sym (append_assoc taken.gone piece (end ∷ [])))
+    all in
     line-ends old next after (taken.gone ++ piece) end (All-append (λ b. ends_line b ≡ false) taken.gone piece taken.inside none) here
     (front ∙ ap (λ l. front_of (l ++ piece)) taken.front ∙ front-more taken.gone piece) joined
 

@@ -17,7 +17,8 @@ use Rattle.input_rows.specs.declared.live.judge.Judged.TheVariants as judged_as
 use Rattle.input_rows.specs.declared.live.start.Start.{Start}
 
 -- a line that isn't the first version's header
-pub start-second : {E : Type 0} (line header : List ℕ) (fault : RowFault) (r : Result Start E) → (length line == 0) ≡ false → length line ≤ 65536 → header ≡ header_of One
+pub start-second : {E : Type 0} (line header : List ℕ) (fault : RowFault) (r : Result Start E) → (length line == 0) ≡ false → length line ≤ 65536 →
+    header ≡ header_of One
     → table_of header line ≡ Err fault → IfOk r (λ s. s ≡ other_start (table_of (header_of Two) line)) → IfOk r (λ s. s ≡ start_of line)
 start-second line header fault r some short named refused other =
     IfOk-weaker r (λ s. s ≡ other_start (table_of (header_of Two) line)) (λ s. s ≡ start_of line) (λ s e. e ∙ sym is) other

@@ -53,15 +53,19 @@ field_is_plain _ fits = refl
 written_as : (field : Field) → Fits field → written default_writer (field_text field) ≡ field_text field
 written_as field fits = ap (λ b. cond b (quoted default_writer (field_text field)) (field_text field)) (field_is_plain field fits)
 
-rest_written : (field : Field) (fields : List Field) → AllFit (field ∷ fields) → 44 ∷ csv_line (field ∷ fields) ≡ fields_text default_writer (map field_text (field ∷ fields)) ++ 10 ∷ []
+rest_written : (field : Field) (fields : List Field) → AllFit (field ∷ fields) → 44 ∷ csv_line (field ∷ fields) ≡ fields_text default_writer
+    (map field_text (field ∷ fields)) ++ 10 ∷ []
 unfolding fields_text
 rest_written field [] fit = rw (written_as field fit.0, append-nil (field_text field)) refl
 rest_written field (next ∷ fields) fit = search (rules, written_as, append_assoc, (rest_written next fields fit.1))
 
-row_written : (first second : Field) (fields : List Field) → AllFit (first ∷ second ∷ fields) → csv_line (first ∷ second ∷ fields) ≡ written_row default_writer (map field_text (first ∷ second ∷ fields))
+row_written : (first second : Field) (fields : List Field) → AllFit (first ∷ second ∷ fields) →
+    csv_line (first ∷ second ∷ fields) ≡ written_row default_writer (map field_text (first ∷ second ∷ fields))
 unfolding is_blank
 row_written first second fields fit = search (rules, rest_written, written_as, append_assoc)
 
 -- a row of two fields or more is read as its fields
-pub row_read : (first second : Field) (fields : List Field) (tail : List ℕ) → AllFit (first ∷ second ∷ fields) → next_record default_config st.StartRecord [] [] (csv_line (first ∷ second ∷ fields) ++ tail) ≡ Some (map field_text (first ∷ second ∷ fields), st.StartRecord, tail)
+pub row_read : (first second : Field) (fields : List Field) (tail : List ℕ) → AllFit (first ∷ second ∷ fields) →
+    next_record default_config st.StartRecord [] [] (csv_line (first ∷ second ∷ fields) ++ tail) ≡ Some
+    (map field_text (first ∷ second ∷ fields), st.StartRecord, tail)
 row_read first second fields tail fit = search (rules, row_written, read-write-many)

@@ -1,5 +1,55 @@
-use Rattle.std.proofs.Common.{rules, ◌≡◌, ℕ, zero, suc, ◌+◌, ◌*◌, ◌<◌, ◌≤◌, ◌==◌, true, false, cond, List, [], ◌∷◌, Result, Ok, Err, map, length, take, get_or, refl, ap, subst, ◌∙◌, arith}
-use Rattle.input_rows.proofs.Common.{get_or_default, length-map, get_or-map, list_any, list_any_none, mod_below, Stream, all_or_first, all_or_first-ok, number_at, nodes_of, has_node, LoadShape, Field, draw, draws_of, fleet_part, network_part, drawn_node, vehicle_row}
+use Rattle.std.proofs.Common.{
+  rules,
+  ◌≡◌,
+  ℕ,
+  zero,
+  suc,
+  ◌+◌,
+  ◌*◌,
+  ◌<◌,
+  ◌≤◌,
+  ◌==◌,
+  true,
+  false,
+  cond,
+  List,
+  [],
+  ◌∷◌,
+  Result,
+  Ok,
+  Err,
+  map,
+  length,
+  take,
+  get_or,
+  refl,
+  ap,
+  subst,
+  ◌∙◌,
+  arith,
+}
+use Rattle.input_rows.proofs.Common.{
+  get_or_default,
+  length-map,
+  get_or-map,
+  list_any,
+  list_any_none,
+  mod_below,
+  Stream,
+  all_or_first,
+  all_or_first-ok,
+  number_at,
+  nodes_of,
+  has_node,
+  LoadShape,
+  Field,
+  draw,
+  draws_of,
+  fleet_part,
+  network_part,
+  drawn_node,
+  vehicle_row,
+}
 use Rattle.std.specs.List.Sorted.{IsStrictlyIncreasing}
 use Rattle.std.proofs.lemmas.Bool.{le-ltb, ne_eqb}
 use Rattle.std.proofs.lemmas.List.{get_or-take, length-take-le}
@@ -31,7 +81,8 @@ abbrev pub VehicleStep : List ℕ → Step
 VehicleStep nodes first row next = IsVehicle nodes first row × (next ≡ first + 1)
 
 -- a node that is drawn is a node of the network
-drawn_known : (shape : LoadShape) (s : Stream) → 2 ≤ shape.side → shape.side ≤ 100 → has_node (nodes_of (map fields_of (network_rows shape))) (drawn_node shape.side s).0 ≡ true
+drawn_known : (shape : LoadShape) (s : Stream) → 2 ≤ shape.side → shape.side ≤ 100 → has_node (nodes_of (map fields_of (network_rows shape)))
+    (drawn_node shape.side s).0 ≡ true
 unfolding drawn_node draw
 drawn_known shape s two small = search (rules, mul-le-mul, node_known, mod_below)
 
@@ -40,7 +91,8 @@ unfolding drawn_node draw
 drawn_small side s two small = search (rules, mul-le-mul, mod_below)
 
 -- the rows of the vehicles, whose ids rise by one from 1
-IsVehicles : (shape : LoadShape) → 2 ≤ shape.side → shape.side ≤ 100 → shape.vehicles ≤ 500 → IsPart (VehicleStep (nodes_of (map fields_of (network_rows shape)))) (0 + 1) (shape.vehicles + 1) (shape.vehicles * 1) (fleet_part shape)
+IsVehicles : (shape : LoadShape) → 2 ≤ shape.side → shape.side ≤ 100 → shape.vehicles ≤ 500 →
+    IsPart (VehicleStep (nodes_of (map fields_of (network_rows shape)))) (0 + 1) (shape.vehicles + 1) (shape.vehicles * 1) (fleet_part shape)
 unfolding fleet_part vehicle_row
 IsVehicles shape two small few =
     IsPart-each (VehicleStep (nodes_of (map fields_of (network_rows shape)))) (λ k. k + 1) 1 (λ k. vehicle_row shape (k + 1)) shape.vehicles
@@ -48,7 +100,14 @@ IsVehicles shape two small few =
       lead = λ s. (
         suc k + 1,
         (
-          record { node = (drawn_node shape.side s).0; is = refl; known = drawn_known shape s two small; node_small = drawn_small shape.side s two small; id_small = omega arith },
+          record {
+            node = (drawn_node shape.side s).0;
+            is = refl;
+            known = drawn_known shape s two small;
+            node_small =
+                drawn_small shape.side s two small;
+            id_small = omega arith;
+          },
           omega arith,
         ),
         refl,
@@ -60,25 +119,29 @@ vehicle_fits : (nodes : List ℕ) (first next : ℕ) (row : List Field) → Vehi
 vehicle_fits nodes first next row step = search (rules, AllFit)
 
 -- the row of a vehicle is accepted
-row_given : (nodes : List ℕ) (earlier : List (List (List ℕ))) (number id : ℕ) (row : List Field) → IsVehicle nodes id row → list_any (λ before. number_at before 0 == id) earlier ≡ false
+row_given : (nodes : List ℕ) (earlier : List (List (List ℕ))) (number id : ℕ) (row : List Field) → IsVehicle nodes id row →
+    list_any (λ before. number_at before 0 == id) earlier ≡ false
     → vehicle_in nodes earlier number (fields_of row) ≡ Ok (empty_vehicle id 4 (number_at (fields_of row) 2) 0)
 unfolding vehicle_in
 row_given nodes earlier number id row vehicle new = search (rules, small_number)
 
 -- rows of vehicles, place by place
-vehicle_at : (nodes : List ℕ) (first high : ℕ) (rows : List (List Field)) (k : ℕ) → Lead (VehicleStep nodes) first high rows → k < length rows → IsVehicle nodes (first + k) (get_or rows k [])
+vehicle_at : (nodes : List ℕ) (first high : ℕ) (rows : List (List Field)) (k : ℕ) → Lead (VehicleStep nodes) first high rows → k < length rows →
+    IsVehicle nodes (first + k) (get_or rows k [])
 vehicle_at nodes first high [] k all below = absurd (omega (arith, below))
 vehicle_at nodes first high (row ∷ rows) zero all below = subst (λ n. IsVehicle nodes n row) (omega arith) all.1.0
 vehicle_at nodes first high (row ∷ rows) (suc k) all below = search (rules, (vehicle_at nodes all.0 high rows k all.2))
 
 -- the id in a row
-id_at : (nodes : List ℕ) (high : ℕ) (rows : List (List Field)) (k : ℕ) → Lead (VehicleStep nodes) 1 high rows → k < length rows → number_at (get_or (map fields_of rows) k []) 0 ≡ 1 + k
+id_at : (nodes : List ℕ) (high : ℕ) (rows : List (List Field)) (k : ℕ) → Lead (VehicleStep nodes) 1 high rows → k < length rows →
+    number_at (get_or (map fields_of rows) k []) 0 ≡ 1 + k
 id_at nodes high rows k all below =
     let vehicle = vehicle_at nodes 1 high rows k all below in
     rw (get_or-map fields_of rows k [] [] below, vehicle.is, small_number (1 + k) vehicle.id_small) refl
 
 -- no row has an earlier row's vehicle
-none_repeated : (nodes : List ℕ) (high : ℕ) (rows : List (List Field)) (k : ℕ) → Lead (VehicleStep nodes) 1 high rows → k < length rows → list_any (λ before. number_at before 0 == 1 + k) (take k (map fields_of rows)) ≡ false
+none_repeated : (nodes : List ℕ) (high : ℕ) (rows : List (List Field)) (k : ℕ) → Lead (VehicleStep nodes) 1 high rows → k < length rows →
+    list_any (λ before. number_at before 0 == 1 + k) (take k (map fields_of rows)) ≡ false
 none_repeated nodes high rows k all below =
     let records : List (List (List ℕ)) = map fields_of rows in
     let size : length records ≡ length rows = length-map rows fields_of in
@@ -86,19 +149,23 @@ none_repeated nodes high rows k all below =
     (λ i d within.
     let before : i < k = omega (arith, within, length-take-le k records (omega (arith, below, size))) in
     let other : number_at (get_or records i []) 0 ≡ 1 + i = id_at nodes high rows i all (omega (arith, before, below)) in
-    let read : get_or (take k records) i d ≡ get_or records i [] = get_or-take k records i d before ∙ get_or_default records i d [] (omega (arith, before, below, size)) in
+    let read : get_or (take k records) i d ≡ get_or records i [] = get_or-take k records i d before ∙
+    get_or_default records i d [] (omega (arith, before, below, size)) in
     ne_eqb (number_at (get_or (take k records) i d) 0) (1 + k) (λ e. omega (arith, before, other, ap (λ fields. number_at fields 0) read, e)))
 
 -- the vehicle of a row
 abbrev made_vehicle : List (List (List ℕ)) → ℕ → Vehicle
 made_vehicle records k = empty_vehicle (1 + k) 4 (number_at (get_or records k []) 2) 0
 
-row_made : (nodes : List ℕ) (high : ℕ) (rows : List (List Field)) (k : ℕ) → Lead (VehicleStep nodes) 1 high rows → k < length rows → vehicle_of_row nodes (map fields_of rows) k ≡ Ok (made_vehicle (map fields_of rows) k)
+row_made : (nodes : List ℕ) (high : ℕ) (rows : List (List Field)) (k : ℕ) → Lead (VehicleStep nodes) 1 high rows → k < length rows →
+    vehicle_of_row nodes (map fields_of rows) k ≡ Ok (made_vehicle (map fields_of rows) k)
 row_made nodes high rows k all below =
     rw (get_or-map fields_of rows k [] [] below)
-    (row_given nodes (take k (map fields_of rows)) (k + 1) (1 + k) (get_or rows k []) (vehicle_at nodes 1 high rows k all below) (none_repeated nodes high rows k all below))
+    (row_given nodes (take k (map fields_of rows)) (k + 1) (1 + k) (get_or rows k []) (vehicle_at nodes 1 high rows k all below)
+    (none_repeated nodes high rows k all below))
 
-all_given : {A F : Type 0} (at : ℕ → Result A F) (give : ℕ → A) (n : ℕ) → ((k : ℕ) → k < n → at k ≡ Ok (give k)) → all_or_first at n ≡ Ok (map give (range_with_len 0 n))
+all_given : {A F : Type 0} (at : ℕ → Result A F) (give : ℕ → A) (n : ℕ) → ((k : ℕ) → k < n → at k ≡ Ok (give k)) →
+    all_or_first at n ≡ Ok (map give (range_with_len 0 n))
 all_given at give zero gives = refl
 all_given at give (suc n) gives = search (rules, all_or_first-ok, map-range_with_len_more, (all_given at give n))
 
@@ -109,7 +176,8 @@ rising records n i within =
     let none : Vehicle = empty_vehicle 0 0 0 0 in
     let size : length made ≡ n = length-map-range_with_len (made_vehicle records) 0 n in
     let id : (k : ℕ) → k < n → get_or (map (λ (v : Vehicle). v.id) made) k 0 ≡ 1 + k =
-    λ k below. get_or-map (λ (v : Vehicle). v.id) made k none 0 (omega (arith, below, size)) ∙ ap (λ (v : Vehicle). v.id) (get_or-map-range_with_len (made_vehicle records) 0 n k k none below (omega arith)) in
+    λ k below. get_or-map (λ (v : Vehicle). v.id) made k none 0 (omega (arith, below, size)) ∙
+    ap (λ (v : Vehicle). v.id) (get_or-map-range_with_len (made_vehicle records) 0 n k k none below (omega arith)) in
     let inside : i + 1 < n = omega (arith, within, size, length-map made (λ (v : Vehicle). v.id)) in
     omega (arith, id i (omega (arith, inside)), id (i + 1) inside)
 
@@ -117,7 +185,8 @@ rising records n i within =
 abbrev pub fleet_rows : LoadShape → List (List Field)
 fleet_rows shape = (fleet_part shape (network_part shape (draws_of shape.seed)).1).0
 
-fleet_given : (nodes : List ℕ) (high : ℕ) (rows : List (List Field)) → Lead (VehicleStep nodes) 1 high rows → length rows ≤ 500 → (fleet : List Vehicle) × IsFleetOf nodes (map fields_of rows) fleet
+fleet_given : (nodes : List ℕ) (high : ℕ) (rows : List (List Field)) → Lead (VehicleStep nodes) 1 high rows → length rows ≤ 500 →
+    (fleet : List Vehicle) × IsFleetOf nodes (map fields_of rows) fleet
 fleet_given nodes high rows all few =
     let records : List (List (List ℕ)) = map fields_of rows in
     let size : length records ≡ length rows = length-map rows fields_of in
@@ -126,15 +195,18 @@ fleet_given nodes high rows all few =
       record {
         vehicles = given;
         read =
-            ap (λ b. cond b (Err TooManyVehicles) (all_or_first (vehicle_of_row nodes records) (length records))) (le-ltb 500 (length records) (omega (arith, size, few)))
-            ∙ all_given (vehicle_of_row nodes records) (made_vehicle records) (length records) (λ k below. row_made nodes high rows k all (omega (arith, below, size)));
+            ap (λ b. cond b (Err TooManyVehicles) (all_or_first (vehicle_of_row nodes records) (length records)))
+            (le-ltb 500 (length records) (omega (arith, size, few)))
+            ∙ all_given (vehicle_of_row nodes records) (made_vehicle records) (length records)
+            (λ k below. row_made nodes high rows k all (omega (arith, below, size)));
         rising = rising records (length records);
         members = λ v. ((λ has. has), (λ has. has));
       },
     )
 
 -- the rows of a shape's fleet give a fleet, on the nodes of its network
-pub fleet_accepted : (shape : LoadShape) → 2 ≤ shape.side → shape.side ≤ 100 → shape.vehicles ≤ 500 → RowsFit 4 (fleet_rows shape) × (fleet : List Vehicle) × IsFleetOf (nodes_of (map fields_of (network_rows shape))) (map fields_of (fleet_rows shape)) fleet
+pub fleet_accepted : (shape : LoadShape) → 2 ≤ shape.side → shape.side ≤ 100 → shape.vehicles ≤ 500 →
+    RowsFit 4 (fleet_rows shape) × (fleet : List Vehicle) × IsFleetOf (nodes_of (map fields_of (network_rows shape))) (map fields_of (fleet_rows shape)) fleet
 unfolding fleet_part
 fleet_accepted shape two small few =
     let nodes : List ℕ = nodes_of (map fields_of (network_rows shape)) in

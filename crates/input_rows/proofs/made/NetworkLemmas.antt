@@ -1,6 +1,61 @@
 use Rattle.std.proofs.lemmas.Bool.Decides.{nat_tests}
-use Rattle.std.proofs.Common.{rules, ◌≡◌, ℕ, zero, suc, ◌+◌, ◌*◌, ◌<◌, ◌≤◌, Bool, cond, ltb, List, [], ◌∷◌, Some, None, Ok, map, length, take, get_or, refl, ap, ◌∙◌, arith}
-use Rattle.input_rows.proofs.Common.{option_or, length-map, get_or-map, mod_below, length-distinct, first_fault-all, most_nodes, longest_arc, greatest_name, nodes_of, field_refusal, refusal_at, network_of, names_in, roads_of, LoadShape, Field, draw, both, draws_of, nothing, arcs_right, arcs_down, arcs_of_row, network_part, node_id, arcs_between}
+use Rattle.std.proofs.Common.{
+  rules,
+  ◌≡◌,
+  ℕ,
+  zero,
+  suc,
+  ◌+◌,
+  ◌*◌,
+  ◌<◌,
+  ◌≤◌,
+  Bool,
+  cond,
+  ltb,
+  List,
+  [],
+  ◌∷◌,
+  Some,
+  None,
+  Ok,
+  map,
+  length,
+  take,
+  get_or,
+  refl,
+  ap,
+  ◌∙◌,
+  arith,
+}
+use Rattle.input_rows.proofs.Common.{
+  option_or,
+  length-map,
+  get_or-map,
+  mod_below,
+  length-distinct,
+  first_fault-all,
+  most_nodes,
+  longest_arc,
+  greatest_name,
+  nodes_of,
+  field_refusal,
+  refusal_at,
+  network_of,
+  names_in,
+  roads_of,
+  LoadShape,
+  Field,
+  draw,
+  both,
+  draws_of,
+  nothing,
+  arcs_right,
+  arcs_down,
+  arcs_of_row,
+  network_part,
+  node_id,
+  arcs_between,
+}
 use Rattle.std.specs.List.{flat_map}
 use Rattle.std.proofs.lemmas.Bool.{le-ltb}
 use Rattle.std.proofs.lemmas.List.{length-append, length-take-le}
@@ -71,12 +126,14 @@ arc_at low high [] k all below = absurd (omega (arith, below))
 arc_at low high (row ∷ rows) zero all below = all.1
 arc_at low high (row ∷ rows) (suc k) all below = arc_at all.0 high rows k all.2 (omega (arith, below))
 
-refusal_parts : (rows : List (List (List ℕ))) (k : ℕ) → refusal_at rows k ≡ option_or (field_refusal (k + 1) (get_or rows k [])) (cond (ltb most_nodes (length (nodes_of (take (k + 1) rows)))) (Some (TooManyNodes (k + 1))) None)
+refusal_parts : (rows : List (List (List ℕ))) (k : ℕ) → refusal_at rows k ≡ option_or (field_refusal (k + 1) (get_or rows k []))
+    (cond (ltb most_nodes (length (nodes_of (take (k + 1) rows)))) (Some (TooManyNodes (k + 1))) None)
 unfolding refusal_at field_refusal
 refusal_parts rows k = grind arith
 
 -- no row of arcs is refused, where the rows are few
-no_refusal : (rows : List (List Field)) (k : ℕ) → Lead ArcStep 0 0 rows → 2 * length rows ≤ most_nodes → k < length rows → refusal_at (map fields_of rows) k ≡ None
+no_refusal : (rows : List (List Field)) (k : ℕ) → Lead ArcStep 0 0 rows → 2 * length rows ≤ most_nodes → k < length rows →
+    refusal_at (map fields_of rows) k ≡ None
 no_refusal rows k all few below =
     let records : List (List (List ℕ)) = map fields_of rows in
     let fine : field_refusal (k + 1) (get_or records k []) ≡ None =
@@ -84,7 +141,16 @@ no_refusal rows k all few below =
     let size : length records ≡ length rows = length-map rows fields_of in
     refusal_parts records k
     ∙ ap (λ o. option_or o (cond (ltb most_nodes (length (nodes_of (take (k + 1) records)))) (Some (TooManyNodes (k + 1))) None)) fine
-    ∙ ap (λ b. cond b (Some (TooManyNodes (k + 1))) None) (le-ltb most_nodes (length (nodes_of (take (k + 1) records))) (omega (arith, length-distinct (flat_map names_in (take (k + 1) records)), two_names (take (k + 1) records), length-take-le (k + 1) records (omega (arith, below, size)), below, few)))
+    ∙ ap (λ b. cond b (Some (TooManyNodes (k + 1))) None) (le-ltb most_nodes (length (nodes_of (take (k + 1) records)))
+    (omega (
+      arith,
+      length-distinct (flat_map names_in (take (k + 1) records)),
+      two_names (take (k + 1) records),
+      length-take-le (k + 1) records
+          (omega (arith, below, size)),
+      below,
+      few,
+    )))
 
 network_given : (rows : List (List Field)) → Lead ArcStep 0 0 rows → length rows ≤ 40000 → network_of (map fields_of rows) ≡ Ok (roads_of (map fields_of rows))
 unfolding network_of
@@ -102,5 +168,6 @@ network_few shape small =
     omega (arith, most, area)
 
 -- the rows of a shape's network give a network
-pub network_accepted : (shape : LoadShape) → shape.side ≤ 100 → RowsFit 3 (network_rows shape) × (network_of (map fields_of (network_rows shape)) ≡ Ok (roads_of (map fields_of (network_rows shape))))
+pub network_accepted : (shape : LoadShape) → shape.side ≤ 100 → RowsFit 3 (network_rows shape) ×
+    (network_of (map fields_of (network_rows shape)) ≡ Ok (roads_of (map fields_of (network_rows shape))))
 network_accepted shape small = grind (arith, nat_tests, Lead, (IsArcs-network shape small), Lead-fit, (arc_fits 0 0), network_given, (network_few shape small))

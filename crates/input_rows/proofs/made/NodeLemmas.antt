@@ -1,5 +1,57 @@
-use Rattle.std.proofs.Common.{rules, ◌≡◌, ℕ, zero, suc, ◌+◌, ◌*◌, ◌/◌, ◌%◌, ◌<◌, ◌≤◌, ◌==◌, Bool, true, List, [], ◌∷◌, map, inl, inr, unwrap_or, refl, ap, subst, ◌∙◌, arith}
-use Rattle.input_rows.proofs.Common.{list_any, cases_eq, false≢true, list_any-append, mod_below, Stream, number_at, has_node, greatest_name, nodes_of, names_in, any-distinct, LoadShape, Field, draw, Part, both, each, arcs_right, arcs_down, arcs_of_row, network_part, node_id, arcs_between}
+use Rattle.std.proofs.Common.{
+  rules,
+  ◌≡◌,
+  ℕ,
+  zero,
+  suc,
+  ◌+◌,
+  ◌*◌,
+  ◌/◌,
+  ◌%◌,
+  ◌<◌,
+  ◌≤◌,
+  ◌==◌,
+  Bool,
+  true,
+  List,
+  [],
+  ◌∷◌,
+  map,
+  inl,
+  inr,
+  unwrap_or,
+  refl,
+  ap,
+  subst,
+  ◌∙◌,
+  arith,
+}
+use Rattle.input_rows.proofs.Common.{
+  list_any,
+  cases_eq,
+  false≢true,
+  list_any-append,
+  mod_below,
+  Stream,
+  number_at,
+  has_node,
+  greatest_name,
+  nodes_of,
+  names_in,
+  any-distinct,
+  LoadShape,
+  Field,
+  draw,
+  Part,
+  both,
+  each,
+  arcs_right,
+  arcs_down,
+  arcs_of_row,
+  network_part,
+  node_id,
+  arcs_between,
+}
 use Rattle.std.specs.List.{flat_map}
 use Rattle.std.proofs.lemmas.Bool.{lt-ltb, eq-eqb}
 use Rattle.std.proofs.lemmas.Nat.{div-add-mod'}
@@ -54,13 +106,15 @@ Naming-right_of n side i k inside here =
 -- a row of the square names each of its nodes: the first with the arcs to the next, the others with those from the one before
 Naming-row : (side i j : ℕ) → 2 ≤ side → side ≤ 100 → i < side → j < side → Naming (node_id side i j) (arcs_of_row side i)
 Naming-row side i zero two small row column =
-    Naming-right_of (node_id side i 0) side i 0 (omega (arith, two)) (Naming-first (node_id side i 0) (node_id side i (0 + 1)) (node_small side i 0 small (omega arith) (omega arith)))
+    Naming-right_of (node_id side i 0) side i 0 (omega (arith, two)) (Naming-first (node_id side i 0) (node_id side i (0 + 1))
+    (node_small side i 0 small (omega arith) (omega arith)))
 Naming-row side i (suc k) two small row column =
     let n : ℕ = node_id side i (k + 1) in
     subst (λ j. Naming (node_id side i j) (arcs_of_row side i)) (omega arith)
     (Naming-right_of n side i k (omega (arith, column)) (Naming-second (node_id side i k) n (node_small side i (k + 1) small (omega arith) (omega arith))))
 
-Naming-network : (shape : LoadShape) (i j : ℕ) → 2 ≤ shape.side → shape.side ≤ 100 → i < shape.side → j < shape.side → Naming (node_id shape.side i j) (network_part shape)
+Naming-network : (shape : LoadShape) (i j : ℕ) → 2 ≤ shape.side → shape.side ≤ 100 → i < shape.side → j < shape.side →
+    Naming (node_id shape.side i j) (network_part shape)
 unfolding network_part
 Naming-network shape i j two small row column = search (rules, Naming-each, Naming-row)
 
@@ -78,5 +132,6 @@ named [] n is = absurd (false≢true is)
 named (row ∷ rows) n is = grind (arith, named rows n)
 
 -- each number of the square is a node of the network
-pub node_known : (shape : LoadShape) (m : ℕ) → 2 ≤ shape.side → shape.side ≤ 100 → m < shape.side * shape.side → has_node (nodes_of (map fields_of (network_rows shape))) (1 + m) ≡ true
+pub node_known : (shape : LoadShape) (m : ℕ) → 2 ≤ shape.side → shape.side ≤ 100 → m < shape.side * shape.side →
+    has_node (nodes_of (map fields_of (network_rows shape))) (1 + m) ≡ true
 node_known shape m two small inside = search (rules, any-distinct, fields_of, network_rows, named, Naming-number)

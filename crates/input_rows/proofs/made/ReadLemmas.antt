@@ -10,7 +10,8 @@ same_network text one other here there = search rules
 pub some_network : (texts : Texts) (text : List ℕ) → AreReadable texts → text ≡ texts.network → IsSomeNetwork text
 some_network texts text all is = (all.roads, subst (λ t. IsNetworkText t all.roads) (sym is) all.read.network)
 
-pub some_fleet : (texts : Texts) (text network : List ℕ) (roads : Roads) → AreReadable texts → text ≡ texts.fleet → network ≡ texts.network → IsNetworkText network roads → IsSomeFleet roads.nodes text
+pub some_fleet : (texts : Texts) (text network : List ℕ) (roads : Roads) → AreReadable texts → text ≡ texts.fleet → network ≡ texts.network →
+    IsNetworkText network roads → IsSomeFleet roads.nodes text
 some_fleet texts text network roads all is from read = search (rules, same_network)
 
 pub some_rounds : (texts : Texts) (text : List ℕ) → AreReadable texts → text ≡ texts.script → AreSomeRounds text

@@ -1,5 +1,20 @@
 use Rattle.std.proofs.Common.{List, map, arith}
-use Rattle.input_rows.proofs.Common.{roads_of, LoadShape, Field, arcs_right, arcs_down, arcs_of_row, network_part, fleet_part, script_part, texts_of, script_header, fleet_header, network_header, AreReadable}
+use Rattle.input_rows.proofs.Common.{
+  roads_of,
+  LoadShape,
+  Field,
+  arcs_right,
+  arcs_down,
+  arcs_of_row,
+  network_part,
+  fleet_part,
+  script_part,
+  texts_of,
+  script_header,
+  fleet_header,
+  network_header,
+  AreReadable,
+}
 use Rattle.rider_limits.specs.Range.{IsShapeInRange}
 use Rattle.input_rows.proofs.made.TextLemmas.{fields_of, IsHeader-network, IsHeader-fleet, table_of-under}
 use Rattle.input_rows.proofs.script.HeaderLemmas.{IsHeader-script}

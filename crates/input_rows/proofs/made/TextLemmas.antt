@@ -27,7 +27,8 @@ rows_long k [] two fit = omega arith
 rows_long k (row ∷ rows) two fit = search (rules, some_byte, length-append, (rows_long k rows two fit.2))
 
 -- rows are read as their fields
-rows_read : (k n : ℕ) (rows : List (List Field)) → 2 ≤ k → length rows < n → RowsFit k rows → records_from default_config n st.StartRecord (csv_lines rows) ≡ map fields_of rows
+rows_read : (k n : ℕ) (rows : List (List Field)) → 2 ≤ k → length rows < n → RowsFit k rows →
+    records_from default_config n st.StartRecord (csv_lines rows) ≡ map fields_of rows
 unfolding records_from next_record
 rows_read k zero rows two fuel fit = absurd (omega arith)
 rows_read k (suc n) [] two fuel fit = refl
@@ -56,5 +57,6 @@ unfolding records_from
 records_of-under header k rows is two fit = search (rules, length-append, rows_long, add-one, rows_read)
 
 -- a made text is read as its rows
-pub table_of-under : (header : List ℕ) (k : ℕ) (rows : List (List Field)) → IsHeader header k → 2 ≤ k → RowsFit k rows → table_of header (text_under header rows) ≡ Ok (record { columns = k; records = map fields_of rows })
+pub table_of-under : (header : List ℕ) (k : ℕ) (rows : List (List Field)) → IsHeader header k → 2 ≤ k → RowsFit k rows →
+    table_of header (text_under header rows) ≡ Ok (record { columns = k; records = map fields_of rows })
 table_of-under header k rows is two fit = grind (arith, nat_tests, (records_of-under header k rows is two fit), (even k 1 rows fit))

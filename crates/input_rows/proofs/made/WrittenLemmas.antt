@@ -12,7 +12,8 @@ pub Writes-plain : (row : List Field) (old new : List ℕ) (s : Stream) → new 
 Writes-plain row old new s is = record { text = is ∙ ap (λ (t : List ℕ). old ++ t) (one_row row); left = refl }
 
 -- two parts were written
-pub Writes-both : (first second : Part) (old mid new : List ℕ) (s t u : Stream) → Writes first old mid s t → Writes second mid new t u → Writes (both first second) old new s u
+pub Writes-both : (first second : Part) (old mid new : List ℕ) (s t u : Stream) → Writes first old mid s t → Writes second mid new t u →
+    Writes (both first second) old new s u
 Writes-both first second old mid new s t u here rest = record {
   text =
       rest.text ∙ ap (λ (r : List ℕ). r ++ csv_lines (second t).0) here.text ∙ append_assoc old (csv_lines (first s).0) (csv_lines (second t).0)
@@ -26,5 +27,6 @@ pub Writes-none : (parts : ℕ → Part) (old : List ℕ) (s : Stream) → Write
 Writes-none parts old s = record { text = sym (append-nil old); left = refl }
 
 -- one more part was written
-pub Writes-next : (parts : ℕ → Part) (n : ℕ) (old mid new : List ℕ) (s t u : Stream) → Writes (each parts n) old mid s t → Writes (parts n) mid new t u → Writes (each parts (n + 1)) old new s u
+pub Writes-next : (parts : ℕ → Part) (n : ℕ) (old mid new : List ℕ) (s t u : Stream) → Writes (each parts n) old mid s t → Writes (parts n) mid new t u →
+    Writes (each parts (n + 1)) old new s u
 Writes-next parts n old mid new s t u before here = rw add-one (Writes-both (each parts n) (parts n) old mid new s t u before here)

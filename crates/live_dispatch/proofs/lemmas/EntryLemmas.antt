@@ -53,12 +53,14 @@ module _ (nodes : List ℕ) (wait : ℕ) where
   state-append s [] ys = refl
   state-append s (e ∷ es) ys = state-append (step nodes wait s e.command).0 es ys
 
-  pub notices-append : (s : State) (xs ys : List Entry) → notices_from nodes wait s (xs ++ ys) ≡ notices_from nodes wait s xs ++ notices_from nodes wait (state_after nodes wait s xs) ys
+  pub notices-append : (s : State) (xs ys : List Entry) → notices_from nodes wait s (xs ++ ys) ≡ notices_from nodes wait s xs ++ notices_from nodes wait
+      (state_after nodes wait s xs) ys
   unfolding notices_from state_after
   notices-append s [] ys = refl
   notices-append s (e ∷ es) ys =
       ap (λ t. entry_notices s e.command e.reply ++ t) (notices-append (step nodes wait s e.command).0 es ys)
-      ∙ sym (append_assoc (entry_notices s e.command e.reply) (notices_from nodes wait (step nodes wait s e.command).0 es) (notices_from nodes wait (state_after nodes wait (step nodes wait s e.command).0 es) ys))
+      ∙ sym (append_assoc (entry_notices s e.command e.reply) (notices_from nodes wait (step nodes wait s e.command).0 es)
+      (notices_from nodes wait (state_after nodes wait (step nodes wait s e.command).0 es) ys))
 
   pub one-notices : (s : State) (e : Entry) → notices_from nodes wait s (e ∷ []) ≡ entry_notices s e.command e.reply
   unfolding notices_from

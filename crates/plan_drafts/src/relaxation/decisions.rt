@@ -2,7 +2,7 @@
 use crate::relaxation::Relaxation;
 use row_tables::fixed_point::{item, set_at};
 use row_tables::lists::short;
-use row_tables::{Decision, RowTable};
+use row_tables::{RowDecision, RowTable};
 
 impl Relaxation {
     /// Allows the rows again that were forbidden after this many.
@@ -15,7 +15,7 @@ impl Relaxation {
     }
 
     /// Gives a row to its vehicle or forbids it.
-    pub fn decide(&mut self, table: &RowTable, decision: Decision) {
+    pub fn decide(&mut self, table: &RowTable, decision: RowDecision) {
         if decision.is_taken {
             self.take(table, decision.row);
         } else {

@@ -6,7 +6,7 @@ use crate::tree::branching::{Branching, decision};
 use crate::tree::tree::{DraftTree, Standing};
 use crate::{Plan, whole};
 use row_tables::fixed_point::{ONE, write_over};
-use row_tables::{Decision, DraftNode, Made, RowTable};
+use row_tables::{DraftNode, Made, RowDecision, RowTable};
 use std::alloc::Global;
 
 /// How many nodes are parted at once: a tree follows from this, and not from the number of workers.
@@ -31,7 +31,7 @@ pub struct End {
 
 impl End {
     /// The end to which this decision leads.
-    pub fn new(alloc: Global, decision: Option<Decision>) -> Self {
+    pub fn new(alloc: Global, decision: Option<RowDecision>) -> Self {
         End {
             node: DraftNode {
                 decision,
@@ -145,7 +145,7 @@ impl Brancher {
 
     /// Makes the end to which this decision leads from where the relaxation stands, and goes back there. It is solved by
     /// the dual simplex, or where that fails from the node above.
-    fn add(&mut self, table: &RowTable, tree: &DraftTree, decision: Decision) -> Made<()> {
+    fn add(&mut self, table: &RowTable, tree: &DraftTree, decision: RowDecision) -> Made<()> {
         let most = tree.draft.cost.saturating_mul(1024).saturating_sub(1023);
         let relaxation = &mut self.relaxation;
         let count = relaxation.forbidden_count;

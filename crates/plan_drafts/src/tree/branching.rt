@@ -5,7 +5,7 @@
 //! wins.
 use crate::relaxation::{Ended, MANY_CONDITIONS, Relaxation, Saved, Share, in_prices};
 use row_tables::fixed_point::{ONE, item};
-use row_tables::{Decision, Made, RowTable};
+use row_tables::{Made, RowDecision, RowTable};
 use std::alloc::Global;
 
 /// What each rider of a row counts toward being tried.
@@ -118,7 +118,7 @@ impl Branching {
         &mut self,
         table: &RowTable,
         relaxation: &mut Relaxation,
-        decision: Decision,
+        decision: RowDecision,
         most: i64,
     ) -> Made<i64> {
         let count = relaxation.forbidden_count;
@@ -136,8 +136,8 @@ fn score_of(rise: i64, most: i64) -> i128 {
 }
 
 /// A row taken or forbidden below this node.
-pub fn decision(parent: usize, row: usize, is_taken: bool) -> Decision {
-    Decision {
+pub fn decision(parent: usize, row: usize, is_taken: bool) -> RowDecision {
+    RowDecision {
         parent,
         row,
         is_taken,

@@ -11,5 +11,17 @@ dead_where_stranded g usable b none stranded = (λ e. let s = stranded.0 e in St
   where
     by_cause : IsDeadEnd g usable → IsTrue b
     by_cause (Clash v w j k r differ a c in_a in_c) =
-        absurd (none (record { first = v; second = w; first_row = j; second_row = k; rider = r; differ = differ; first_sole = a; second_sole = c; in_first = in_a; in_second = in_c }))
+        absurd (none (record {
+          first = v;
+          second = w;
+          first_row = j;
+          second_row = k;
+          rider = r;
+          differ = differ;
+          first_sole = a;
+          second_sole = c;
+          in_first =
+              in_a;
+          in_second = in_c;
+        }))
     by_cause (Stranded r must nowhere) = stranded.1 (record { rider = r; must = must; nowhere = nowhere })

@@ -1,6 +1,57 @@
 -- Riders of rows, and how often riders are served.
-use Rattle.std.proofs.Common.{◌≡◌, ◌==◌, ℕ, zero, suc, ◌+◌, ◌<◌, ◌≤◌, Bool, true, false, List, [], ◌∷◌, length, get_or, Option, Some, None, refl, ap, ◌∙◌, subst, arith, add-one, eq-eqb, rules}
-use Rattle.plan_rules.proofs.Common.{list_any, IsStrictlyIncreasing, both_ways, list_any_at, get_or_read, count_below, TripRow, Graph, no_row, row_at, riders_at, has_rider, IsRowOf, HasNoRow, choice_at, is_in, times_served, IsGraphRow, HoldsRightly, IsStartOf, nat_tests, false_from_ne_true}
+use Rattle.std.proofs.Common.{
+  ◌≡◌,
+  ◌==◌,
+  ℕ,
+  zero,
+  suc,
+  ◌+◌,
+  ◌<◌,
+  ◌≤◌,
+  Bool,
+  true,
+  false,
+  List,
+  [],
+  ◌∷◌,
+  length,
+  get_or,
+  Option,
+  Some,
+  None,
+  refl,
+  ap,
+  ◌∙◌,
+  subst,
+  arith,
+  add-one,
+  eq-eqb,
+  rules,
+}
+use Rattle.plan_rules.proofs.Common.{
+  list_any,
+  IsStrictlyIncreasing,
+  both_ways,
+  list_any_at,
+  get_or_read,
+  count_below,
+  TripRow,
+  Graph,
+  no_row,
+  row_at,
+  riders_at,
+  has_rider,
+  IsRowOf,
+  HasNoRow,
+  choice_at,
+  is_in,
+  times_served,
+  IsGraphRow,
+  HoldsRightly,
+  IsStartOf,
+  nat_tests,
+  false_from_ne_true,
+}
 use Rattle.plan_rules.proofs.lemmas.SumLemmas.{flag, count_below_more, count_below_none, count_below_some, count_below_found}
 
 -- ---- lists of riders
@@ -44,7 +95,8 @@ vehicle_below g v k rows row = omega (arith, (rows k row.within).vehicle, row.ow
 
 -- ---- how often a rider is served
 
-pub times_served_more : (g : Graph) (chosen : List (Option ℕ)) (n r : ℕ) → times_served g chosen (n + 1) r ≡ times_served g chosen n r + flag (is_in g (choice_at chosen n) r)
+pub times_served_more : (g : Graph) (chosen : List (Option ℕ)) (n r : ℕ) → times_served g chosen (n + 1) r ≡ times_served g chosen n r + flag
+    (is_in g (choice_at chosen n) r)
 unfolding times_served
 times_served_more g chosen n r = count_below_more n (λ v. is_in g (choice_at chosen v) r)
 
@@ -52,7 +104,8 @@ pub times_served_none : (g : Graph) (chosen : List (Option ℕ)) (r : ℕ) → t
 unfolding times_served
 times_served_none g chosen r = refl
 
-pub times_served_found : (g : Graph) (chosen : List (Option ℕ)) (n r : ℕ) → 1 ≤ times_served g chosen n r → (v : ℕ) × (v < n) × (is_in g (choice_at chosen v) r ≡ true)
+pub times_served_found : (g : Graph) (chosen : List (Option ℕ)) (n r : ℕ) → 1 ≤ times_served g chosen n r →
+    (v : ℕ) × (v < n) × (is_in g (choice_at chosen v) r ≡ true)
 unfolding times_served
 times_served_found g chosen n r h = count_below_found n (λ v. is_in g (choice_at chosen v) r) h
 
@@ -70,7 +123,8 @@ in_choice g None r e = absurd (both_ways false refl e)
 in_choice g (Some k) r e = (k, refl, e)
 
 -- no trip has a rider whom the graph hasn't
-pub times_served_outside : (g : Graph) (chosen : List (Option ℕ)) (n r : ℕ) → ((k : ℕ) → k < length g.rows → IsGraphRow g.vehicles g.riders (row_at g k)) → ((v k : ℕ) → v < n → choice_at chosen v ≡ Some k → k < length g.rows) → g.riders ≤ r → times_served g chosen n r ≡ 0
+pub times_served_outside : (g : Graph) (chosen : List (Option ℕ)) (n r : ℕ) → ((k : ℕ) → k < length g.rows → IsGraphRow g.vehicles g.riders (row_at g k)) →
+    ((v k : ℕ) → v < n → choice_at chosen v ≡ Some k → k < length g.rows) → g.riders ≤ r → times_served g chosen n r ≡ 0
 unfolding times_served
 times_served_outside g chosen n r rows fits out = search (rules, count_below_none, is_in, false_from_ne_true, in_choice, rider_below)
 
@@ -95,7 +149,16 @@ starts_meet g v start next first second none = search (rules, row_between)
 -- the first n vehicles hold a rider at most once
 pub held_once : (g : Graph) (n r : ℕ) → n ≤ g.vehicles → ((v : ℕ) → v < n → HoldsRightly g v) → times_served g g.held n r ≤ 1
 held_once g zero r low holds = omega (arith, times_served_none g g.held r)
-held_once g (suc n) r low holds = grind (arith, nat_tests, (is_in g), (add-one n), (times_served_more g g.held n r), (HasNoRow g n), (both_ways false), (held_once g n r))
+held_once g (suc n) r low holds = grind (
+  arith,
+  nat_tests,
+  (is_in g),
+  (add-one n),
+  (times_served_more g g.held n r),
+  (HasNoRow g n),
+  (both_ways false),
+  (held_once g n r),
+)
 
 -- ---- reads
 

@@ -1,6 +1,65 @@
 -- Greedy plans: ranks, and what taking a row keeps.
-use Rattle.std.proofs.Common.{All, ◌≡◌, ◌⊎◌, ◌||◌, ℕ, ◌-◌, ◌<◌, ◌≤◌, Bool, true, false, List, length, get_or, set, Option, Some, None, refl, sym, ap, ◌∙◌, subst, inl, inr, ⊎_elim, arith, rules}
-use Rattle.plan_rules.proofs.Common.{same_Some, none-some, list_any, ordering_then, nat_tests, cases_eq, cases_lt, or_cases, or_left, or_right, both_ways, get_or_past, Graph, riders_at, cost_at, row_vehicle, has_rider, choice_at, IsGoodGraph, IsTaken, IsApart, IsTriedBefore, IsGreedy, rank_value, rank_of, parts_of, AreRanks, IsSelection, IsInTheWay}
+use Rattle.std.proofs.Common.{
+  All,
+  ◌≡◌,
+  ◌⊎◌,
+  ◌||◌,
+  ℕ,
+  ◌-◌,
+  ◌<◌,
+  ◌≤◌,
+  Bool,
+  true,
+  false,
+  List,
+  length,
+  get_or,
+  set,
+  Option,
+  Some,
+  None,
+  refl,
+  sym,
+  ap,
+  ◌∙◌,
+  subst,
+  inl,
+  inr,
+  ⊎_elim,
+  arith,
+  rules,
+}
+use Rattle.plan_rules.proofs.Common.{
+  same_Some,
+  none-some,
+  list_any,
+  ordering_then,
+  nat_tests,
+  cases_eq,
+  cases_lt,
+  or_cases,
+  or_left,
+  or_right,
+  both_ways,
+  get_or_past,
+  Graph,
+  riders_at,
+  cost_at,
+  row_vehicle,
+  has_rider,
+  choice_at,
+  IsGoodGraph,
+  IsTaken,
+  IsApart,
+  IsTriedBefore,
+  IsGreedy,
+  rank_value,
+  rank_of,
+  parts_of,
+  AreRanks,
+  IsSelection,
+  IsInTheWay,
+}
 use Rattle.std.specs.Ordering.{nat_cmp, is_lt}
 use Rattle.std.proofs.lemmas.List.{get_or-set_same, get_or-set_other, length-set}
 use Rattle.plan_rules.proofs.lemmas.GraphLemmas.{rider_below}
@@ -16,7 +75,8 @@ pub rank_before : (g : Graph) (j k : ℕ) → IsGoodGraph g → j < length g.row
 rank_before g j k good lj lk ne low = search (rules, rank_order)
 
 -- of two triples in order the first isn't the greater
-not_above : (a x j b y k : ℕ) → is_lt (ordering_then (ordering_then (nat_cmp b a) (nat_cmp y x)) (nat_cmp k j)) ≡ false → (a < b) ⊎ ((a ≡ b) × ((x < y) ⊎ ((x ≡ y) × (j ≤ k))))
+not_above : (a x j b y k : ℕ) → is_lt (ordering_then (ordering_then (nat_cmp b a) (nat_cmp y x)) (nat_cmp k j)) ≡ false →
+    (a < b) ⊎ ((a ≡ b) × ((x < y) ⊎ ((x ≡ y) × (j ≤ k))))
 not_above a x j b y k e = grind (arith, nat_tests)
 
 -- the triple is what a row is sorted by
@@ -24,7 +84,8 @@ abbrev pub IsOfRow : Graph → ℕ × ℕ × ℕ → Type 0
 IsOfRow g rank = (rank.2 < length g.rows) × (rank ≡ parts_of g rank.2)
 
 -- what rows are sorted by stands in the order of their ranks
-pub in_order : (g : Graph) (s t : ℕ × ℕ × ℕ) → IsGoodGraph g → IsOfRow g s → IsOfRow g t → is_lt (ordering_then (ordering_then (nat_cmp t.0 s.0) (nat_cmp t.1 s.1)) (nat_cmp t.2 s.2)) ≡ false → rank_of g s.2 ≤ rank_of g t.2
+pub in_order : (g : Graph) (s t : ℕ × ℕ × ℕ) → IsGoodGraph g → IsOfRow g s → IsOfRow g t →
+    is_lt (ordering_then (ordering_then (nat_cmp t.0 s.0) (nat_cmp t.1 s.1)) (nat_cmp t.2 s.2)) ≡ false → rank_of g s.2 ≤ rank_of g t.2
 unfolding rank_value
 in_order g s t good first second e = search (rules, not_above)
 
@@ -33,7 +94,8 @@ of_rows g ranks are k d l = search rules
 
 -- ---- taking a row
 
-module _ (g : Graph) (chosen : List (Option ℕ)) (served : List Bool) (row : ℕ) (good : IsGoodGraph g) (within : row < length g.rows) (selection : IsSelection g chosen served) (free : choice_at chosen (row_vehicle g row) ≡ None) where
+module _ (g : Graph) (chosen : List (Option ℕ)) (served : List Bool) (row : ℕ) (good : IsGoodGraph g) (within : row < length g.rows)
+    (selection : IsSelection g chosen served) (free : choice_at chosen (row_vehicle g row) ≡ None) where
   inside : row_vehicle g row < length chosen
   inside = search rules
 
@@ -52,7 +114,11 @@ module _ (g : Graph) (chosen : List (Option ℕ)) (served : List Bool) (row : �
 
   -- a row that is taken is apart from one with no marked rider
   pub new_apart : (list_any (λ r. get_or served r false) (riders_at g row) ≡ false) → (j : ℕ) → j < length g.rows → IsTaken g chosen j → IsApart g j row
-  new_apart unmarked j low taken = (other_vehicle j taken, λ r a b. both_ways _ unmarked (any_marked served (riders_at g row) r b (selection.serves j r low taken a)))
+  new_apart unmarked j low taken = (
+    other_vehicle j taken,
+    λ r a b. both_ways _ unmarked (any_marked served (riders_at g row) r b
+        (selection.serves j r low taken a)),
+  )
 
   flip : (j : ℕ) → IsApart g j row → IsApart g row j
   flip j apart = (λ e. apart.0 (sym e), λ r a b. apart.1 r b a)
@@ -107,7 +173,8 @@ module _ (g : Graph) (chosen : List (Option ℕ)) (served : List Bool) (row : �
   }
 
 -- a vehicle that has a row already, or a rider of the row who is served already, is in the way
-pub way_by_vehicle : (g : Graph) (chosen : List (Option ℕ)) (served : List Bool) (row k : ℕ) → IsGoodGraph g → row < length g.rows → IsSelection g chosen served → choice_at chosen (row_vehicle g row) ≡ Some k → IsInTheWay g chosen row
+pub way_by_vehicle : (g : Graph) (chosen : List (Option ℕ)) (served : List Bool) (row k : ℕ) → IsGoodGraph g → row < length g.rows →
+    IsSelection g chosen served → choice_at chosen (row_vehicle g row) ≡ Some k → IsInTheWay g chosen row
 way_by_vehicle g chosen served row k good within selection e =
     let low : row_vehicle g row < g.vehicles = (good.rows row within).vehicle in
     let own = selection.own (row_vehicle g row) k low e in
@@ -118,14 +185,16 @@ way_by_vehicle g chosen served row k good within selection e =
       conflict = λ apart. apart.0 own.own;
     }
 
-pub way_by_rider : (g : Graph) (chosen : List (Option ℕ)) (served : List Bool) (row : ℕ) → IsSelection g chosen served → list_any (λ r. get_or served r false) (riders_at g row) ≡ true → IsInTheWay g chosen row
+pub way_by_rider : (g : Graph) (chosen : List (Option ℕ)) (served : List Bool) (row : ℕ) → IsSelection g chosen served →
+    list_any (λ r. get_or served r false) (riders_at g row) ≡ true → IsInTheWay g chosen row
 way_by_rider g chosen served row selection e = search (rules, marked_one)
 
 -- ---- the whole ranking
 
 -- the rows taken along a ranking are the greedy plan
 pub greedy_from : (g : Graph) (chosen : List (Option ℕ)) (served : List Bool) → IsGoodGraph g → IsSelection g chosen served
-    → ((k : ℕ) → k < length g.rows → ((j : ℕ) → j < length g.rows → IsTriedBefore g j k → IsTaken g chosen j → IsApart g j k) → IsTaken g chosen k) → IsGreedy g chosen
+    → ((k : ℕ) → k < length g.rows → ((j : ℕ) → j < length g.rows → IsTriedBefore g j k → IsTaken g chosen j → IsApart g j k) → IsTaken g chosen k) →
+    IsGreedy g chosen
 greedy_from g chosen served good selection settled = record {
   sized = selection.sized;
   own = selection.own;

@@ -13,6 +13,7 @@ pub any_marked : (marks : List Bool) (xs : List ℕ) (r : ℕ) → has xs r ≡ 
 any_marked marks [] r e marked = e
 any_marked marks (x ∷ xs) r e marked = search (rules, or_left, eqb-true, has, or_right, or_cases, (any_marked marks xs r))
 
-pub marked_one : (marks : List Bool) (xs : List ℕ) → list_any (λ q. get_or marks q false) xs ≡ true → (r : ℕ) × (has xs r ≡ true) × (get_or marks r false ≡ true)
+pub marked_one : (marks : List Bool) (xs : List ℕ) → list_any (λ q. get_or marks q false) xs ≡ true →
+    (r : ℕ) × (has xs r ≡ true) × (get_or marks r false ≡ true)
 marked_one marks [] e = absurd (both_ways false refl e)
 marked_one marks (x ∷ xs) e = search (rules, or_left, has, eq-eqb, or_right, or_cases, (marked_one marks xs))

@@ -1,6 +1,21 @@
 -- Plans: the held one is lawful; choices name rows.
 use Rattle.std.proofs.Common.{◌≡◌, ℕ, ◌<◌, ◌≤◌, true, IsTrue, List, length, Option, Some, None, MatchOption, refl, subst, ltb-true, rules}
-use Rattle.plan_rules.proofs.Common.{none-some, same_Some, cases_lt, get_or_past, Graph, IsRowOf, HasNoRow, choice_at, must_be_served, IsGoodGraph, HoldsRightly, IsPlan, IsLawful, times_chosen}
+use Rattle.plan_rules.proofs.Common.{
+  none-some,
+  same_Some,
+  cases_lt,
+  get_or_past,
+  Graph,
+  IsRowOf,
+  HasNoRow,
+  choice_at,
+  must_be_served,
+  IsGoodGraph,
+  HoldsRightly,
+  IsPlan,
+  IsLawful,
+  times_chosen,
+}
 use Rattle.plan_rules.specs.lemmas.Graph.{ChoosesRows}
 use Rattle.plan_rules.proofs.lemmas.GraphLemmas.{held_once, in_choice, rider_below, times_served_found, times_served_outside}
 
@@ -29,5 +44,6 @@ pub held_lawful : (g : Graph) → length g.held ≡ g.vehicles → ((v : ℕ) �
 held_lawful g sized holds = search (rules, held_once, ltb-true, HasNoRow)
 
 -- a plan is lawful where it serves each of the graph's riders as it must
-pub lawful_from : (g : Graph) (chosen : List (Option ℕ)) → IsGoodGraph g → IsPlan g chosen → ((r : ℕ) → r < g.riders → times_chosen g chosen r ≤ 1) → ((r : ℕ) → r < g.riders → IsTrue (must_be_served g r) → times_chosen g chosen r ≡ 1) → IsLawful g chosen
+pub lawful_from : (g : Graph) (chosen : List (Option ℕ)) → IsGoodGraph g → IsPlan g chosen → ((r : ℕ) → r < g.riders → times_chosen g chosen r ≤ 1) →
+    ((r : ℕ) → r < g.riders → IsTrue (must_be_served g r) → times_chosen g chosen r ≡ 1) → IsLawful g chosen
 lawful_from g chosen good plan once kept = search (rules, cases_lt, times_served_outside, plan_choice, must_below)

@@ -1,6 +1,26 @@
 -- Trees read node by node, and the places that they have.
 use Rattle.std.proofs.Common.{◌≡◌, List, [], ◌∷◌, ◌++◌, Option, Some, None, ℤ, refl, sym, ap, subst, arith, rules}
-use Rattle.plan_rules.proofs.Common.{ints, int_min_is, int_min, lesser, Graph, Usable, leaf_value, Place, rounded_up, with_leaf, least_leaf, IsSoundNode, coming_after, ReadsTo, places_from, Node, Branch, Leaf, Dead}
+use Rattle.plan_rules.proofs.Common.{
+  ints,
+  int_min_is,
+  int_min,
+  lesser,
+  Graph,
+  Usable,
+  leaf_value,
+  Place,
+  rounded_up,
+  with_leaf,
+  least_leaf,
+  IsSoundNode,
+  coming_after,
+  ReadsTo,
+  places_from,
+  Node,
+  Branch,
+  Leaf,
+  Dead,
+}
 
 -- two parts, one after the other
 pub reads_append : (g : Graph) (xs ys : List Node) (a b d : List Usable) → ReadsTo g a xs b → ReadsTo g b ys d → ReadsTo g a (xs ++ ys) d
@@ -9,15 +29,18 @@ reads_append g (n ∷ xs) ys [] b d first second = absurd first
 reads_append g (n ∷ xs) ys (u ∷ us) b d first second = (first.0, reads_append g xs ys (coming_after g u n us) b d (first.1) second)
 
 -- one more node
-pub reads_push : (g : Graph) (xs : List Node) (n : Node) (a : List Usable) (u : Usable) (us : List Usable) → ReadsTo g a xs (u ∷ us) → IsSoundNode g u n → ReadsTo g a (xs ++ n ∷ []) (coming_after g u n us)
+pub reads_push : (g : Graph) (xs : List Node) (n : Node) (a : List Usable) (u : Usable) (us : List Usable) → ReadsTo g a xs (u ∷ us) → IsSoundNode g u n →
+    ReadsTo g a (xs ++ n ∷ []) (coming_after g u n us)
 reads_push g xs n a u us first sound = reads_append g xs (n ∷ []) a (u ∷ us) (coming_after g u n us) first (sound, refl)
 
-pub places_append : (g : Graph) (xs ys : List Node) (a b : List Usable) → ReadsTo g a xs b → places_from g a (xs ++ ys) ≡ places_from g a xs ++ places_from g b ys
+pub places_append : (g : Graph) (xs ys : List Node) (a b : List Usable) → ReadsTo g a xs b →
+    places_from g a (xs ++ ys) ≡ places_from g a xs ++ places_from g b ys
 places_append g [] ys a b first = ap (λ (c : List Usable). places_from g c ys) first
 places_append g (n ∷ xs) ys [] b first = absurd first
 places_append g (n ∷ xs) ys (u ∷ us) b first = search (rules, (places_append g xs ys))
 
-pub places_push : (g : Graph) (xs : List Node) (n : Node) (a : List Usable) (u : Usable) (us : List Usable) → ReadsTo g a xs (u ∷ us) → places_from g a (xs ++ n ∷ []) ≡ places_from g a xs ++ record { node = n; usable = u } ∷ []
+pub places_push : (g : Graph) (xs : List Node) (n : Node) (a : List Usable) (u : Usable) (us : List Usable) → ReadsTo g a xs (u ∷ us) →
+    places_from g a (xs ++ n ∷ []) ≡ places_from g a xs ++ record { node = n; usable = u } ∷ []
 places_push g xs n a u us first = places_append g xs (n ∷ []) a (u ∷ us) first
 
 -- ---- the least leaf, in any order

@@ -1,6 +1,65 @@
 -- What is read node by node is a tree.
-use Rattle.std.proofs.Common.{◌≡◌, ℕ, count_by, zero, suc, ◌+◌, ◌≤◌, List, [], ◌∷◌, ◌++◌, length, map, refl, sym, ap, ◌∙◌, subst, arith, pos, Option, unwrap_or, rules}
-use Rattle.plan_rules.proofs.Common.{map-append, Graph, IsGoodGraph, Usable, every_row, only_row, without_row, SearchTree, Parted, Bounded, Closed, IsSoundTree, IsTreeOf, IsTreeOfValue, Place, places_within, least_leaf, tree_value, belongs_to_end, belongs_to_dead_end, preorder, places, IsWholeTree, places_read, value_read, ReadsTo, places_from, IsPlan, IsLawful, IsBound, Node, Branch, Leaf, Dead}
+use Rattle.std.proofs.Common.{
+  ◌≡◌,
+  ℕ,
+  count_by,
+  zero,
+  suc,
+  ◌+◌,
+  ◌≤◌,
+  List,
+  [],
+  ◌∷◌,
+  ◌++◌,
+  length,
+  map,
+  refl,
+  sym,
+  ap,
+  ◌∙◌,
+  subst,
+  arith,
+  pos,
+  Option,
+  unwrap_or,
+  rules,
+}
+use Rattle.plan_rules.proofs.Common.{
+  map-append,
+  Graph,
+  IsGoodGraph,
+  Usable,
+  every_row,
+  only_row,
+  without_row,
+  SearchTree,
+  Parted,
+  Bounded,
+  Closed,
+  IsSoundTree,
+  IsTreeOf,
+  IsTreeOfValue,
+  Place,
+  places_within,
+  least_leaf,
+  tree_value,
+  belongs_to_end,
+  belongs_to_dead_end,
+  preorder,
+  places,
+  IsWholeTree,
+  places_read,
+  value_read,
+  ReadsTo,
+  places_from,
+  IsPlan,
+  IsLawful,
+  IsBound,
+  Node,
+  Branch,
+  Leaf,
+  Dead,
+}
 use Rattle.std.proofs.lemmas.List.{length-append, append_assoc, append-nil}
 use Rattle.plan_rules.proofs.lemmas.TreeLemmas.{each_plan_at_one_end, no_plan_at_dead_ends, tree_value_bounds}
 
@@ -65,11 +124,13 @@ places_are g nodes t tree =
     ∙ append-nil (places g t)
 
 -- and back: a sound tree's nodes are read
-reads_of_sound : (g : Graph) (t : SearchTree) (usable : Usable) (coming rest : List Usable) (behind : List Node) → IsSoundTree g usable t → ReadsTo g coming behind rest
+reads_of_sound : (g : Graph) (t : SearchTree) (usable : Usable) (coming rest : List Usable) (behind : List Node) → IsSoundTree g usable t →
+    ReadsTo g coming behind rest
     → ReadsTo g (usable ∷ coming) (preorder t ++ behind) rest
 reads_of_sound g (Bounded ms) usable coming rest behind sound reads = (sound, reads)
 reads_of_sound g Closed usable coming rest behind sound reads = (sound, reads)
-reads_of_sound g (Parted v k first second) usable coming rest behind sound reads = search (rules, append_assoc, preorder, (reads_of_sound g first), (reads_of_sound g second))
+reads_of_sound g (Parted v k first second) usable coming rest behind sound reads = search
+    (rules, append_assoc, preorder, (reads_of_sound g first), (reads_of_sound g second))
 
 pub reads_of_tree : (g : Graph) (nodes : List Node) (t : SearchTree) → IsTreeOf g nodes t → IsWholeTree g nodes
 reads_of_tree g nodes t tree =

@@ -1,6 +1,63 @@
 -- Sums, counts and least values over the numbers below n.
-use Rattle.std.proofs.Common.{◌≡◌, ◌==◌, ◌⊎◌, ℕ, zero, suc, ◌+◌, ◌*◌, ◌<◌, ◌≤◌, Bool, true, false, cond, ◌||◌, ◌&&◌, if◌then◌else◌, ltb, ℤ, pos, ◌+ℤ◌, ◌-ℤ◌, ◌≤ℤ◌, Option, Some, None, refl, sym, ◌∙◌, subst, inl, inr, arith, add-one, ne_eqb, int_lt, rules}
-use Rattle.plan_rules.proofs.Common.{same_Some, none-some, int_min, ints, int_min_is, nat_tests, cases_eq, cases_Bool, cond_both, cond-true, cond-false, and_from, sum_below, count_below, all_below, int_sum_below, lesser, least_below}
+use Rattle.std.proofs.Common.{
+  ◌≡◌,
+  ◌==◌,
+  ◌⊎◌,
+  ℕ,
+  zero,
+  suc,
+  ◌+◌,
+  ◌*◌,
+  ◌<◌,
+  ◌≤◌,
+  Bool,
+  true,
+  false,
+  cond,
+  ◌||◌,
+  ◌&&◌,
+  if◌then◌else◌,
+  ltb,
+  ℤ,
+  pos,
+  ◌+ℤ◌,
+  ◌-ℤ◌,
+  ◌≤ℤ◌,
+  Option,
+  Some,
+  None,
+  refl,
+  sym,
+  ◌∙◌,
+  subst,
+  inl,
+  inr,
+  arith,
+  add-one,
+  ne_eqb,
+  int_lt,
+  rules,
+}
+use Rattle.plan_rules.proofs.Common.{
+  same_Some,
+  none-some,
+  int_min,
+  ints,
+  int_min_is,
+  nat_tests,
+  cases_eq,
+  cases_Bool,
+  cond_both,
+  cond-true,
+  cond-false,
+  and_from,
+  sum_below,
+  count_below,
+  all_below,
+  int_sum_below,
+  lesser,
+  least_below,
+}
 
 -- ---- sums of naturals
 
@@ -157,7 +214,8 @@ lesser-le_right (Some y) z = omega (arith, ints, int_min_is y z)
 pub lesser-le_left : (y z : ℤ) → lesser (Some y) z ≤ℤ y
 lesser-le_left y z = omega (arith, ints, int_min_is y z)
 
-pub least_below_more : (n : ℕ) (p : ℕ → Bool) (f : ℕ → ℤ) → least_below (n + 1) p f ≡ (if p n then Some (lesser (least_below n p f) (f n)) else least_below n p f)
+pub least_below_more : (n : ℕ) (p : ℕ → Bool) (f : ℕ → ℤ) → least_below (n + 1) p f ≡ (if p n then Some (lesser (least_below n p f) (f n)) else least_below n p
+    f)
 least_below_more n p f = rw add-one refl
 
 -- what the least value is, where one passes
@@ -165,8 +223,12 @@ pub least_below_some : (n : ℕ) (p : ℕ → Bool) (f : ℕ → ℤ) (k : ℕ) 
 least_below_some zero p f k l e = absurd (omega arith)
 least_below_some (suc n) p f k l e = elim (cases_eq k n) [
   | inl here ↦
-      let passes : p n ≡ true = subst (λ j. p j ≡ true) here e in
-      (lesser (least_below n p f) (f n), rw passes refl, subst (λ j. lesser (least_below n p f) (f n) ≤ℤ f j) (sym here) (lesser-le_right (least_below n p f) (f n)))
+      let passes : p n ≡ true = subst (λ j. p j ≡ true) here e in (
+        lesser (least_below n p f) (f n),
+        rw passes refl,
+        subst (λ j. lesser (least_below n p f) (f n) ≤ℤ f j) (sym here)
+            (lesser-le_right (least_below n p f) (f n)),
+      )
   | inr other ↦
       let w = least_below_some n p f k (omega arith) e in elim (cases_Bool (p n)) [
         | inl passes ↦ (lesser (Some w.0) (f n), rw (passes, w.1) refl, omega (arith, ints, lesser-le_left w.0 (f n), w.2))
@@ -186,7 +248,8 @@ int_min_cases x y = cond_both (int_lt y x) y x (λ (m : ℤ). (m ≡ x) ⊎ (m �
 abbrev Reaches : ℕ → (ℕ → Bool) → (ℕ → ℤ) → ℤ → Type 0
 Reaches n p f z = (k : ℕ) × (k < n) × (p k ≡ true) × (z ≡ f k)
 
-from_lesser : (n : ℕ) (p : ℕ → Bool) (f : ℕ → ℤ) (z : ℤ) → p n ≡ true → (o : Option ℤ) → ((y : ℤ) → o ≡ Some y → Reaches n p f y) → lesser o (f n) ≡ z → Reaches (suc n) p f z
+from_lesser : (n : ℕ) (p : ℕ → Bool) (f : ℕ → ℤ) (z : ℤ) → p n ≡ true → (o : Option ℤ) → ((y : ℤ) → o ≡ Some y → Reaches n p f y) → lesser o (f n) ≡ z →
+    Reaches (suc n) p f z
 from_lesser n p f z passed None before value = (n, omega arith, passed, sym value)
 from_lesser n p f z passed (Some y) before value = elim (int_min_cases y (f n)) [
   | inl left ↦ let w = before y refl in (w.0, omega (arith, w.1), w.2, sym value ∙ left ∙ w.3)

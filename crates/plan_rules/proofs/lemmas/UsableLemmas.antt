@@ -1,6 +1,22 @@
 -- What depends on usable rows depends on those of the graph alone.
 use Rattle.std.proofs.Common.{◌≡◌, ℕ, zero, suc, ◌<◌, Bool, List, length, ℤ, refl, sym, ◌∙◌, arith, unwrap_or, rules}
-use Rattle.plan_rules.proofs.Common.{least_below, Graph, Usable, vehicle_term, leaf_value, least_cost, first_fit_of, first_fit_below, first_fit_value, MayUse, CanBranch, IsSoleRow, IsDeadEnd, Clash, Stranded}
+use Rattle.plan_rules.proofs.Common.{
+  least_below,
+  Graph,
+  Usable,
+  vehicle_term,
+  leaf_value,
+  least_cost,
+  first_fit_of,
+  first_fit_below,
+  first_fit_value,
+  MayUse,
+  CanBranch,
+  IsSoleRow,
+  IsDeadEnd,
+  Clash,
+  Stranded,
+}
 use Rattle.plan_rules.proofs.lemmas.SumLemmas.{int_sum_same}
 
 -- the two agree on the graph's rows

@@ -31,7 +31,18 @@ distinct-push_new (n ∷ ns) m new =
 -- one more number that was there changes nothing
 pub distinct-push_old : (ns : List ℕ) (m : ℕ) → list_any (λ n. eqb n m) ns ≡ true → distinct (ns ++ m ∷ []) ≡ distinct ns
 distinct-push_old [] m old = absurd cc
-distinct-push_old (n ∷ ns) m old = search (rules, cases_Bool, or_cases, eqb-true, eq-eqb, distinct-push_new, none_is, filter-append, append-nil, (distinct-push_old ns m))
+distinct-push_old (n ∷ ns) m old = search (
+  rules,
+  cases_Bool,
+  or_cases,
+  eqb-true,
+  eq-eqb,
+  distinct-push_new,
+  none_is,
+  filter-append,
+  append-nil,
+  (distinct-push_old ns m),
+)
 
 -- one more number, new or not
 pub distinct-push : (ns : List ℕ) (m : ℕ) → distinct (ns ++ m ∷ []) ≡ cond (list_any (λ n. eqb n m) ns) (distinct ns) (distinct ns ++ m ∷ [])

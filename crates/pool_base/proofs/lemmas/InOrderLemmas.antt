@@ -1,10 +1,36 @@
 -- What comes first among so many places.
-use Rattle.std.proofs.Common.{rules, ◌≡◌, ℕ, zero, suc, ◌+◌, ◌<◌, Bool, true, false, List, [], ◌∷◌, ◌++◌, Option, Some, None, Result, Ok, Err, refl, ap, ◌∙◌, arith}
+use Rattle.std.proofs.Common.{
+  rules,
+  ◌≡◌,
+  ℕ,
+  zero,
+  suc,
+  ◌+◌,
+  ◌<◌,
+  Bool,
+  true,
+  false,
+  List,
+  [],
+  ◌∷◌,
+  ◌++◌,
+  Option,
+  Some,
+  None,
+  Result,
+  Ok,
+  Err,
+  refl,
+  ap,
+  ◌∙◌,
+  arith,
+}
 use Rattle.std.specs.Option.{option_or}
 use Rattle.pool_base.specs.InOrder.{◌>>=◌, refused_where, all_or_first, first_fault}
 
 -- what comes after a step that answers, answers only where the step does
-pub then_ok : {A B F : Type 0} (r : Result A F) (next : A → Result B F) (b : B) (P : Type 0) → (r >>= next) ≡ Ok b → ((a : A) → r ≡ Ok a → next a ≡ Ok b → P) → P
+pub then_ok : {A B F : Type 0} (r : Result A F) (next : A → Result B F) (b : B) (P : Type 0) → (r >>= next) ≡ Ok b → ((a : A) → r ≡ Ok a → next a ≡ Ok b → P) →
+    P
 then_ok (Ok a) next b P is gives = gives a refl is
 then_ok (Err fault) next b P is gives = absurd cc
 
@@ -14,11 +40,13 @@ refused_where-passed true fault u is = absurd cc
 refused_where-passed false fault u is = refl
 
 -- one more place that gives
-pub all_or_first-ok : {A F : Type 0} (at : ℕ → Result A F) (n : ℕ) (xs : List A) (x : A) → all_or_first at n ≡ Ok xs → at n ≡ Ok x → all_or_first at (n + 1) ≡ Ok (xs ++ x ∷ [])
+pub all_or_first-ok : {A F : Type 0} (at : ℕ → Result A F) (n : ℕ) (xs : List A) (x : A) → all_or_first at n ≡ Ok xs → at n ≡ Ok x →
+    all_or_first at (n + 1) ≡ Ok (xs ++ x ∷ [])
 all_or_first-ok at n xs x before here = search rules
 
 -- the first place that refuses
-pub all_or_first-err : {A F : Type 0} (at : ℕ → Result A F) (n place : ℕ) (xs : List A) (fault : F) → place < n → all_or_first at place ≡ Ok xs → at place ≡ Err fault → all_or_first at n ≡ Err fault
+pub all_or_first-err : {A F : Type 0} (at : ℕ → Result A F) (n place : ℕ) (xs : List A) (fault : F) → place < n → all_or_first at place ≡ Ok xs →
+    at place ≡ Err fault → all_or_first at n ≡ Err fault
 all_or_first-err at zero place xs fault below before here = absurd (omega (arith, below))
 all_or_first-err at (suc n) place xs fault below before here = search (rules, (all_or_first-err at n place xs fault))
 
@@ -36,7 +64,8 @@ pub first_fault-none : {F : Type 0} (at : ℕ → Option F) (n : ℕ) → first_
 first_fault-none at n before here = search rules
 
 -- the first place with a fault
-pub first_fault-some : {F : Type 0} (at : ℕ → Option F) (n place : ℕ) (fault : F) → place < n → first_fault at place ≡ None → at place ≡ Some fault → first_fault at n ≡ Some fault
+pub first_fault-some : {F : Type 0} (at : ℕ → Option F) (n place : ℕ) (fault : F) → place < n → first_fault at place ≡ None → at place ≡ Some fault →
+    first_fault at n ≡ Some fault
 first_fault-some at zero place fault below before here = absurd (omega (arith, below))
 first_fault-some at (suc n) place fault below before here = search (rules, (first_fault-some at n place fault))
 

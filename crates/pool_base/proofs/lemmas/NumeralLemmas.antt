@@ -1,5 +1,32 @@
 use Rattle.std.proofs.lemmas.Bool.Decides.{nat_tests}
-use Rattle.std.proofs.Common.{rules, ◌≡◌, ◌≢◌, ◌↔◌, ℕ, zero, suc, ◌<◌, ◌≤◌, ◌^◌, true, false, List, [], ◌∷◌, Some, None, Result, Ok, Err, IsErr, length, slice_index, nat_le, refl, arith}
+use Rattle.std.proofs.Common.{
+  rules,
+  ◌≡◌,
+  ◌≢◌,
+  ◌↔◌,
+  ℕ,
+  zero,
+  suc,
+  ◌<◌,
+  ◌≤◌,
+  ◌^◌,
+  true,
+  false,
+  List,
+  [],
+  ◌∷◌,
+  Some,
+  None,
+  Result,
+  Ok,
+  Err,
+  IsErr,
+  length,
+  slice_index,
+  nat_le,
+  refl,
+  arith,
+}
 use Rattle.std.specs.List.{list_all}
 use Rattle.std.specs.Char.{is_ascii_digit}
 use Rattle.std.specs.Result.{IsErrOf}
@@ -62,16 +89,21 @@ unfolding number_up_to
 number_up_to-some most text n given = search (rules, cases_Bool, and_parts, leb-true)
 
 -- a text that `read_number` refuses gives nothing
-pub number_up_to-refused : (most : ℕ) (text : List ℕ) (r : Result ℕ NumberFault) → most < 2 ^ 64 → IsErr r → (IsErrOf r Empty ↔ (text ≡ [])) → ((place : ℕ) → IsErrOf r (NotDigit place) ↔ IsFirstNoDigit text place) → (IsErrOf r TooLarge ↔ (AllDigits text × (2 ^ 64 ≤ value_of text))) → number_up_to most text ≡ None
+pub number_up_to-refused : (most : ℕ) (text : List ℕ) (r : Result ℕ NumberFault) → most < 2 ^ 64 → IsErr r → (IsErrOf r Empty ↔ (text ≡ [])) →
+    ((place : ℕ) → IsErrOf r (NotDigit place) ↔ IsFirstNoDigit text place) → (IsErrOf r TooLarge ↔ (AllDigits text × (2 ^ 64 ≤ value_of text))) →
+    number_up_to most text ≡ None
 number_up_to-refused most text (Ok n) small err empty not_digit too_large = cc
 number_up_to-refused most text (Err Empty) small err empty not_digit too_large = search (rules, number_up_to-other)
-number_up_to-refused most text (Err (NotDigit place)) small err empty not_digit too_large = grind (arith, nat_tests, (number_up_to-other most text), (is_numeral-other text place))
+number_up_to-refused most text (Err (NotDigit place)) small err empty not_digit too_large =
+    grind (arith, nat_tests, (number_up_to-other most text), (is_numeral-other text place))
 number_up_to-refused most text (Err TooLarge) small err empty not_digit too_large = search (rules, number_up_to-large)
 
 -- the number that a column gives is the number in it
-pub number_in-at : {F : Type 0} (fault : ℕ → ℕ → F) (row : ℕ) (fields : List (List ℕ)) (column n : ℕ) → number_in fault row fields column ≡ Ok n → n ≡ number_at fields column
+pub number_in-at : {F : Type 0} (fault : ℕ → ℕ → F) (row : ℕ) (fields : List (List ℕ)) (column n : ℕ) → number_in fault row fields column ≡ Ok n →
+    n ≡ number_at fields column
 number_in-at fault row fields column n given = search rules
 
 -- and at most 1,000,000,000
-pub number_in-within : {F : Type 0} (fault : ℕ → ℕ → F) (row : ℕ) (fields : List (List ℕ)) (column n : ℕ) → number_in fault row fields column ≡ Ok n → n ≤ 1000000000
+pub number_in-within : {F : Type 0} (fault : ℕ → ℕ → F) (row : ℕ) (fields : List (List ℕ)) (column n : ℕ) → number_in fault row fields column ≡ Ok n →
+    n ≤ 1000000000
 number_in-within fault row fields column n given = search (rules, number_up_to-some)

@@ -20,7 +20,8 @@ module _ {X : Type 0} (K : X → BlockLine) (of : BlockLists → List X) (put : 
       ∙ ap (λ u. fold with_line u rest) (again t l (l ++ xs) ∙ ap (put t) (append_assoc (of t) (x ∷ []) xs))
 
 -- a tree's lines add themselves
-tree_told : (t : BlockLists) (tree rest : List BlockLine) → All IsNodeLine tree → fold with_line t (tree ++ rest) ≡ fold with_line (record t { tree = t.tree ++ tree }) rest
+tree_told : (t : BlockLists) (tree rest : List BlockLine) → All IsNodeLine tree → fold with_line t (tree ++ rest) ≡ fold with_line
+    (record t { tree = t.tree ++ tree }) rest
 tree_told t [] rest drawn = ap (λ l. fold with_line (record t { tree = l }) rest) (sym (append-nil t.tree))
 tree_told t (line ∷ lines) rest drawn =
     ap (λ u. fold with_line u (lines ++ rest)) (more line (All-head IsNodeLine line lines drawn))
@@ -33,9 +34,11 @@ tree_told t (line ∷ lines) rest drawn =
     more Dead is = refl
     more _ is = absurd is
 
-expired_told : (t : BlockLists) (rest : List BlockLine) → told_by (Batch t.batch ∷ (map Expired t.expired ++ rest)) ≡ fold with_line (record nothing_told { batch = t.batch; expired = t.expired }) rest
+expired_told : (t : BlockLists) (rest : List BlockLine) → told_by (Batch t.batch ∷ (map Expired t.expired ++ rest)) ≡ fold with_line
+    (record nothing_told { batch = t.batch; expired = t.expired }) rest
 expired_told t rest =
-    list_told Expired (λ t. t.expired) (λ t l. record t { expired = l }) (λ t. refl) (λ t x. refl) (λ t l. refl) (λ t l m. refl) (record nothing_told { batch = t.batch }) t.expired rest
+    list_told Expired (λ t. t.expired) (λ t l. record t { expired = l }) (λ t. refl) (λ t x. refl) (λ t l. refl) (λ t l m. refl)
+    (record nothing_told { batch = t.batch }) t.expired rest
 
 -- what the lines of an overflow tell, and those of a plan
 abbrev pub overflow_told : ℕ → List ℕ → BlockLists

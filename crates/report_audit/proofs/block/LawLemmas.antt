@@ -20,7 +20,8 @@ module _ (settings : Settings) (roads : Roads) (batch : Batch) (text : List ℕ)
   untold_fails none = not_above 5 (point_place found) (λ (late : 5 < point_place found).
       none (told_by wrong.lines).batch (judged_outcome (vehicle_ids batch) (told_by wrong.lines)) (judged_few (vehicle_ids batch) (told_by wrong.lines)).1
       (lines_are (vehicle_ids batch) wrong.lines wrong.block.begins.order wrong.block.ended
-      (λ q. told_below (told_by wrong.lines) 9 (λ h. told_before point.Graphs (omega (arith, late))) (λ h. told_before point.Late (omega (arith, late))) (λ h. told_before point.Trips (omega (arith, late))) (λ h. told_before point.Bound late) q (last_place q))))
+      (λ q. told_below (told_by wrong.lines) 9 (λ h. told_before point.Graphs (omega (arith, late))) (λ h. told_before point.Late (omega (arith, late)))
+      (λ h. told_before point.Trips (omega (arith, late))) (λ h. told_before point.Bound late) q (last_place q))))
 
   breaks : (p : Point) (line : BlockLine) → (CanBeTold p (told_by wrong.lines) → AreShort p (told_by wrong.lines)) → Contains wrong.lines line → (IsShort p line → ⊥) → point_place found ≤ point_place p
   breaks p line short stands long = not_above (point_place p) (point_place found) (λ (late : point_place p < point_place found).

@@ -56,13 +56,16 @@ answered_by expired answer = record { expired = expired; answer = answer }
 overflow_lines : (batch : ℕ) (expired : List ℕ) → lines_of true batch (answered_by expired TooMany) ≡ printed true (overflow_told batch expired)
 overflow_lines batch expired = append_assoc (Batch batch ∷ map Expired expired) (Overflow ∷ []) (End ∷ [])
 
-plan_lines : (batch : ℕ) (expired : List ℕ) (plan : Planned) → lines_of true batch (answered_by expired (Plan plan)) ≡ printed false (told_of batch expired plan)
+plan_lines : (batch : ℕ) (expired : List ℕ) (plan : Planned) → lines_of true batch (answered_by expired (Plan plan)) ≡ printed false
+    (told_of batch expired plan)
 plan_lines batch expired plan =
     let late = fused Late late_text plan.late in
     let rows = fused TripRow row_text plan.rows in
     let chosen = fused Trip trip_text plan.chosen in
-    nest (Batch batch ∷ []) (map Expired expired) (map Lapsed plan.lapsed) (map late_as_line plan.late) (map Alone plan.rv) (map Shared plan.rr) (map row_as_line plan.rows)
-    (map trip_as_line plan.chosen) (map Out plan.left) (map Move plan.moves) (Cost plan.cost ∷ Bound plan.bound ∷ Nodes (length plan.tree) ∷ []) (map (tree_line plan.rows) plan.tree) (End ∷ [])
+    nest (Batch batch ∷ []) (map Expired expired) (map Lapsed plan.lapsed) (map late_as_line plan.late) (map Alone plan.rv) (map Shared plan.rr)
+    (map row_as_line plan.rows)
+    (map trip_as_line plan.chosen) (map Out plan.left) (map Move plan.moves) (Cost plan.cost ∷ Bound plan.bound ∷ Nodes (length plan.tree) ∷ [])
+    (map (tree_line plan.rows) plan.tree) (End ∷ [])
     ∙ (λ i. Batch batch ∷ (map Expired expired ++ (map Lapsed plan.lapsed ++ (late i ++ (map Alone plan.rv ++ (map Shared plan.rr ++ (rows i ++ (chosen i
     ++ from 6 (told_of batch expired plan)))))))))
 
@@ -78,10 +81,12 @@ back f g P same [] all = refl
 back f g P same (x ∷ xs) all = ap (λ z. z ∷ map g (map f xs)) (same x (All-head P x xs all)) ∙ ap (λ zs. x ∷ zs) (back f g P same xs (All-tail P x xs all))
 
 -- trees, there and back
-tree_back : (ids : List ℕ) (rows : List TripRowText) (tree : List BlockLine) → All IsNodeLine tree → All (NamesRow rows) tree → map (tree_line (map row_of rows)) (map (node_of ids) tree) ≡ tree
+tree_back : (ids : List ℕ) (rows : List TripRowText) (tree : List BlockLine) → All IsNodeLine tree → All (NamesRow rows) tree →
+    map (tree_line (map row_of rows)) (map (node_of ids) tree) ≡ tree
 tree_back ids rows [] drawn named = refl
 tree_back ids rows (line ∷ lines) drawn named =
-    ap (λ z. z ∷ map (tree_line (map row_of rows)) (map (node_of ids) lines)) (by line (All-head IsNodeLine line lines drawn) (All-head (NamesRow rows) line lines named))
+    ap (λ z. z ∷ map (tree_line (map row_of rows)) (map (node_of ids) lines)) (by line (All-head IsNodeLine line lines drawn)
+    (All-head (NamesRow rows) line lines named))
     ∙ ap (λ zs. line ∷ zs) (tree_back ids rows lines (All-tail IsNodeLine line lines drawn) (All-tail (NamesRow rows) line lines named))
   where
     by : (line : BlockLine) → IsNodeLine line → NamesRow rows line → tree_line (map row_of rows) (node_of ids line) ≡ line
@@ -107,21 +112,24 @@ pub lines_are : (ids : List ℕ) (lines : List BlockLine) → follow_on 0 lines 
     → lines ≡ lines_of true (told_by lines).batch (judged_outcome ids (told_by lines))
 lines_are ids lines f e can = by (is_printed lines f e)
   where
-    by : ((overflow : Bool) × (t : BlockLists) × All IsNodeLine t.tree × (lines ≡ printed overflow t)) → lines ≡ lines_of true (told_by lines).batch (judged_outcome ids (told_by lines))
+    by : ((overflow : Bool) × (t : BlockLists) × All IsNodeLine t.tree × (lines ≡ printed overflow t)) →
+        lines ≡ lines_of true (told_by lines).batch (judged_outcome ids (told_by lines))
     by (true, t, drawn, is) =
         let told : told_by lines ≡ overflow_told t.batch t.expired = ap told_by is ∙ overflow_is_told t in
         is ∙ sym (overflow_lines t.batch t.expired) ∙ ap (λ (u : BlockLists). lines_of true u.batch (judged_outcome ids u)) (sym told)
     by (false, t, drawn, is) =
         let told : told_by lines ≡ record t { overflow = false } = ap told_by is ∙ plan_is_told t drawn in
         let can_so : (q : Point) → CanBeTold q (record t { overflow = false }) = λ q. subst (λ (u : BlockLists). CanBeTold q u) told (can q) in
-        let late = back late_of late_text (λ late. IfSome late.stops (λ stops. length stops ≤ 10)) (λ late low. grind (arith, nat_tests, kept)) t.late (can_so point.Late) in
+        let late = back late_of late_text (λ late. IfSome late.stops (λ stops. length stops ≤ 10)) (λ late low. grind (arith, nat_tests, kept)) t.late
+        (can_so point.Late) in
         let rows = back row_of row_text (λ row. length row.riders ≤ 6) (λ row low. grind (arith, nat_tests, kept)) t.rows (can_so point.Graphs) in
         let chosen = back trip_of trip_text (λ trip. length trip.stops ≤ 22) (λ trip low. grind (arith, nat_tests, kept)) t.chosen (can_so point.Trips) in
         let nodes : length (map (node_of ids) t.tree) ≡ t.nodes = length-map t.tree (node_of ids) ∙ sym (can_so point.Bound).0 in
         let tree = tree_back ids t.rows t.tree drawn (can_so point.Bound).1 in
         let same : told_of t.batch t.expired (judged_plan ids t) ≡ record t { overflow = false } =
         (λ i. record t { overflow = false; late = late i; rows = rows i; chosen = chosen i; nodes = nodes i; tree = tree i }) in
-        is ∙ ap (printed false) (sym same) ∙ sym (plan_lines t.batch t.expired (judged_plan ids t)) ∙ ap (λ (u : BlockLists). lines_of true u.batch (judged_outcome ids u)) (sym told)
+        is ∙ ap (printed false) (sym same) ∙ sym (plan_lines t.batch t.expired (judged_plan ids t)) ∙
+        ap (λ (u : BlockLists). lines_of true u.batch (judged_outcome ids u)) (sym told)
 
 -- no list of the outcome as which lines are judged is longer than there can be
 pub judged_few : (ids : List ℕ) (t : BlockLists) → HasFewStops (judged_outcome ids t).answer × HasTrips (judged_outcome ids t).answer
@@ -160,27 +168,51 @@ none_told batch expired q = tt
 module _ (batch : ℕ) (expired : List ℕ) (plan : Planned) (stops : HasFewStops (Plan plan)) (trips : HasTrips (Plan plan)) where
   all_told : (q : Point) → CanBeTold q (told_of batch expired plan)
   all_told point.Graphs = All-map (λ row. length row.riders ≤ 6) row_text plan.rows trips
-  all_told point.Late = All-map (λ late. IfSome late.stops (λ stops. length stops ≤ 10)) late_text plan.late (λ k d within. let low = stops.0 k d within in grind (arith, nat_tests, low))
+  all_told point.Late = All-map (λ late. IfSome late.stops (λ stops. length stops ≤ 10)) late_text plan.late
+      (λ k d within. let low = stops.0 k d within in grind (arith, nat_tests, low))
   all_told point.Trips = All-map (λ trip. length trip.stops ≤ 22) trip_text plan.chosen stops.1
-  all_told point.Bound = (sym (length-map plan.tree (tree_line plan.rows)), All-map (NamesRow (map row_text plan.rows)) (tree_line plan.rows) plan.tree (λ k d within. (line_drawn plan.rows (get_or plan.tree k d)).1))
+  all_told point.Bound = (
+    sym (length-map plan.tree (tree_line plan.rows)),
+    All-map (NamesRow (map row_text plan.rows)) (tree_line plan.rows) plan.tree
+        (λ k d within. (line_drawn plan.rows (get_or plan.tree k d)).1),
+  )
   all_told q = tt
 
   plan_again : (ids : List ℕ) → AreNumbered ids (Plan plan) → judged_plan ids (told_of batch expired plan) ≡ plan
   plan_again ids numbered =
-      let late = back late_text late_of (λ late. IfSome late.stops (λ stops. length stops.items ≤ 10)) (λ late low. grind (arith, nat_tests, kept)) plan.late stops.0 in
+      let late = back late_text late_of (λ late. IfSome late.stops (λ stops. length stops.items ≤ 10)) (λ late low. grind (arith, nat_tests, kept)) plan.late
+      stops.0 in
       let rows = back row_text row_of (λ row. length row.riders.items ≤ 6) (λ row low. grind (arith, nat_tests, kept)) plan.rows trips in
       let chosen = back trip_text trip_of (λ trip. length trip.stops.items ≤ 22) (λ trip low. grind (arith, nat_tests, kept)) plan.chosen stops.1 in
       let tree = tree_again ids plan.rows plan.tree numbered in
-      (λ i. record { lapsed = plan.lapsed; late = late i; rv = plan.rv; rr = plan.rr; rows = rows i; chosen = chosen i; left = plan.left; moves = plan.moves; cost = plan.cost; bound = plan.bound; tree = tree i })
+      (λ i. record {
+        lapsed = plan.lapsed;
+        late = late i;
+        rv = plan.rv;
+        rr = plan.rr;
+        rows = rows i;
+        chosen = chosen i;
+        left = plan.left;
+        moves =
+            plan.moves;
+        cost = plan.cost;
+        bound = plan.bound;
+        tree = tree i;
+      })
 
-pub outcome_is_told : (ids : List ℕ) (batch : ℕ) (outcome : Outcome) → HasFewStops outcome.answer → HasTrips outcome.answer → AreNumbered ids outcome.answer → IsToldAs ids batch outcome (told_by (lines_of true batch outcome))
+pub outcome_is_told : (ids : List ℕ) (batch : ℕ) (outcome : Outcome) → HasFewStops outcome.answer → HasTrips outcome.answer → AreNumbered ids outcome.answer →
+    IsToldAs ids batch outcome (told_by (lines_of true batch outcome))
 outcome_is_told ids batch outcome stops trips numbered = by outcome.answer stops trips numbered
   where
-    by : (answer : Answer) → HasFewStops answer → HasTrips answer → AreNumbered ids answer → IsToldAs ids batch (answered_by outcome.expired answer) (told_by (lines_of true batch (answered_by outcome.expired answer)))
+    by : (answer : Answer) → HasFewStops answer → HasTrips answer → AreNumbered ids answer →
+        IsToldAs ids batch (answered_by outcome.expired answer) (told_by (lines_of true batch (answered_by outcome.expired answer)))
     by TooMany stops trips numbered =
         let t = sym (ap told_by (overflow_lines batch outcome.expired) ∙ overflow_is_told (overflow_told batch outcome.expired)) in
-        subst (λ (u : BlockLists). IsToldAs ids batch (answered_by outcome.expired TooMany) u) t (record { number = refl; same = refl; can = none_told batch outcome.expired })
+        subst (λ (u : BlockLists). IsToldAs ids batch (answered_by outcome.expired TooMany) u) t
+        (record { number = refl; same = refl; can = none_told batch outcome.expired })
     by (Plan plan) stops trips numbered =
-        let t = sym (ap told_by (plan_lines batch outcome.expired plan) ∙ plan_is_told (told_of batch outcome.expired plan) (All-map IsNodeLine (tree_line plan.rows) plan.tree (λ k d within. (line_drawn plan.rows (get_or plan.tree k d)).0))) in
+        let t = sym (ap told_by (plan_lines batch outcome.expired plan) ∙ plan_is_told (told_of batch outcome.expired plan)
+        (All-map IsNodeLine (tree_line plan.rows) plan.tree (λ k d within. (line_drawn plan.rows (get_or plan.tree k d)).0))) in
         let same = ap (λ (x : Planned). answered_by outcome.expired (Plan x)) (plan_again batch outcome.expired plan stops trips ids numbered) in
-        subst (λ (u : BlockLists). IsToldAs ids batch (answered_by outcome.expired (Plan plan)) u) t (record { number = refl; same = same; can = all_told batch outcome.expired plan stops trips })
+        subst (λ (u : BlockLists). IsToldAs ids batch (answered_by outcome.expired (Plan plan)) u) t
+        (record { number = refl; same = same; can = all_told batch outcome.expired plan stops trips })

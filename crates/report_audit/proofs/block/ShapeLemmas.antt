@@ -109,7 +109,13 @@ abbrev HasRest : List BlockLine → Type 0
 HasRest lines = (overflow : Bool) × (t : BlockLists) × All IsNodeLine t.tree × (Batch t.batch ∷ lines ≡ printed overflow t)
 
 expired_more : (rider : ℕ) (l : List BlockLine) → HasRest l → HasRest (Expired rider ∷ l)
-expired_more rider l (overflow, t, drawn, whole) = (overflow, record t { expired = rider ∷ t.expired }, drawn, ap (λ r. Batch t.batch ∷ Expired rider ∷ drop 1 r) whole)
+expired_more rider l (overflow, t, drawn, whole) = (
+  overflow,
+  record t { expired = rider ∷ t.expired },
+  drawn,
+  ap
+      (λ r. Batch t.batch ∷ Expired rider ∷ drop 1 r) whole,
+)
 
 expired : (l : List BlockLine) → follow_on 2 l ≡ true → last_place 2 l ≡ 16 → HasRest l
 expired [] f e = absurd (omega arith)
@@ -126,11 +132,13 @@ numbered_as : (n : ℕ) (l : List BlockLine) → HasRest l → (overflow : Bool)
 numbered_as n l (overflow, t, drawn, whole) = (overflow, record t { batch = n }, drawn, ap (λ r. Batch n ∷ drop 1 r) whole)
 
 -- each block in form has these lines of something told
-pub is_printed : (l : List BlockLine) → follow_on 0 l ≡ true → last_place 0 l ≡ 16 → (overflow : Bool) × (t : BlockLists) × All IsNodeLine t.tree × (l ≡ printed overflow t)
+pub is_printed : (l : List BlockLine) → follow_on 0 l ≡ true → last_place 0 l ≡ 16 → (overflow : Bool) × (t : BlockLists) × All IsNodeLine t.tree ×
+    (l ≡ printed overflow t)
 is_printed [] f e = absurd (omega arith)
 is_printed (Batch n ∷ l) f e = numbered_as n l (from_one l f e)
 is_printed (x ∷ l) f e = absurd (cc)
 
 -- lists that are joined from the front, joined from the end
-pub nest : (b x a c d e r f g h n t z : List BlockLine) → b ++ x ++ ((a ++ c ++ d ++ e ++ r) ++ (f ++ g ++ h) ++ n ++ t) ++ z ≡ b ++ (x ++ (a ++ (c ++ (d ++ (e ++ (r ++ (f ++ (g ++ (h ++ (n ++ (t ++ z)))))))))))
+pub nest : (b x a c d e r f g h n t z : List BlockLine) → b ++ x ++ ((a ++ c ++ d ++ e ++ r) ++ (f ++ g ++ h) ++ n ++ t) ++ z ≡ b ++
+    (x ++ (a ++ (c ++ (d ++ (e ++ (r ++ (f ++ (g ++ (h ++ (n ++ (t ++ z)))))))))))
 nest b x a c d e r f g h n t z = simp append_assoc refl

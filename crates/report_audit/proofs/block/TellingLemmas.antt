@@ -6,7 +6,8 @@ use Rattle.dispatch_engine.specs.declared.outcome.point.Point.TheVariants as poi
 
 module _ (t : BlockLists) where
   -- where the points that ask something of the lines can be told before a place, all can
-  pub told_below : (place : ℕ) → (1 < place → CanBeTold point.Graphs t) → (2 < place → CanBeTold point.Late t) → (3 < place → CanBeTold point.Trips t) → (5 < place → CanBeTold point.Bound t)
+  pub told_below : (place : ℕ) → (1 < place → CanBeTold point.Graphs t) → (2 < place → CanBeTold point.Late t) → (3 < place → CanBeTold point.Trips t) →
+      (5 < place → CanBeTold point.Bound t)
       → HoldBelow (λ q. CanBeTold q t) place
   told_below place rows late trips tree point.Graphs less = rows less
   told_below place rows late trips tree point.Late less = late less

@@ -1,6 +1,43 @@
 -- Texts of things one behind another, to the end of a line.
-use Rattle.std.proofs.Common.{◌≡◌, ◌≢◌, ℕ, ◌<◌, Bool, true, false, nat_eq, length, codes, List, [], ◌∷◌, ◌++◌, refl, sym, ap, ◌∙◌, append_assoc, append-nil, length-append, subst, arith, rules}
-use Rattle.report_audit.proofs.Common.{flat_map-append, All-append, All-cons, All-head, All-tail, BeginsWith, BeginsWithNone, ends_number, numbered, spaced, IsId}
+use Rattle.std.proofs.Common.{
+  ◌≡◌,
+  ◌≢◌,
+  ℕ,
+  ◌<◌,
+  Bool,
+  true,
+  false,
+  nat_eq,
+  length,
+  codes,
+  List,
+  [],
+  ◌∷◌,
+  ◌++◌,
+  refl,
+  sym,
+  ap,
+  ◌∙◌,
+  append_assoc,
+  append-nil,
+  length-append,
+  subst,
+  arith,
+  rules,
+}
+use Rattle.report_audit.proofs.Common.{
+  flat_map-append,
+  All-append,
+  All-cons,
+  All-head,
+  All-tail,
+  BeginsWith,
+  BeginsWithNone,
+  ends_number,
+  numbered,
+  spaced,
+  IsId,
+}
 use Rattle.std.specs.List.{flat_map, All}
 use Rattle.report_audit.proofs.lemmas.lines.ReadingLemmas.{EndsOnce, StandsApart, TextIsOfOne, numbered_once, spaced_apart}
 
@@ -52,19 +89,22 @@ module _ {X : Type 0} {t : X → List ℕ} {Is : X → Type 0} (item : IsItem t 
       cc
 
   -- where no text is left, the items are those that are given
-  pub so_far_done : {text : List ℕ} {items : List X} {rest : List ℕ} → ReadSoFar t Is text items rest → nat_eq (length rest) 0 ≡ true → (given : List X) → given ≡ items → All Is given × (text ≡ flat_map t given)
+  pub so_far_done : {text : List ℕ} {items : List X} {rest : List ℕ} → ReadSoFar t Is text items rest → nat_eq (length rest) 0 ≡ true → (given : List X) →
+      given ≡ items → All Is given × (text ≡ flat_map t given)
   so_far_done {text} {items} {rest = []} so done given e = search rules
   so_far_done {text} {items} {rest = c ∷ cs} so done given e = search rules
 
   -- where no item follows, and not the end
-  pub so_far_stuck : {text : List ℕ} {items : List X} {rest : List ℕ} → ReadSoFar t Is text items rest → nat_eq (length rest) 0 ≡ false → BeginsWithNone t Is rest → (all : List X) → All Is all → text ≢ flat_map t all
+  pub so_far_stuck : {text : List ℕ} {items : List X} {rest : List ℕ} → ReadSoFar t Is text items rest → nat_eq (length rest) 0 ≡ false →
+      BeginsWithNone t Is rest → (all : List X) → All Is all → text ≢ flat_map t all
   so_far_stuck {text} {items} {rest} so more none all lawful e = by (so.only all lawful e).0 (so.only all lawful e).1
     where
       by : (left : List X) → LeftToRead t Is items rest all left → ⊥
       by [] l = let f : List ℕ → Bool = λ r. nat_eq (length r) 0 in let zero_long : nat_eq (length rest) 0 ≡ true = ap f l.text in cc
       by (x ∷ xs) l = none x (flat_map t xs) (begins_many rest x xs l.lawful l.text)
 
-  next_left : (items : List X) (rest : List ℕ) (x : X) (after : List ℕ) → BeginsWith t Is rest x after → (all left : List X) → LeftToRead t Is items rest all left → (more : List X) × LeftToRead t Is (items ++ x ∷ []) after all more
+  next_left : (items : List X) (rest : List ℕ) (x : X) (after : List ℕ) → BeginsWith t Is rest x after → (all left : List X) →
+      LeftToRead t Is items rest all left → (more : List X) × LeftToRead t Is (items ++ x ∷ []) after all more
   next_left items rest x after b all [] l = absurd (not_empty x after (sym l.text ∙ b.whole))
   next_left items rest x after b all (y ∷ ys) l =
       let same = item.form.once rest x y after (flat_map t ys) b (begins_many rest y ys l.lawful l.text) in
@@ -73,7 +113,8 @@ module _ {X : Type 0} {t : X → List ℕ} {Is : X → Type 0} (item : IsItem t 
       (ys, record { parts = parts; text = same.1; lawful = All-tail Is y ys l.lawful })
 
   -- one item more, of a list that is given as that
-  pub so_far_more : {text : List ℕ} {items : List X} {rest : List ℕ} {x : X} {after : List ℕ} {new : List X} {given : X} → ReadSoFar t Is text items rest → BeginsWith t Is rest x after → new ≡ items ++ given ∷ [] → given ≡ x → ReadSoFar t Is text new after
+  pub so_far_more : {text : List ℕ} {items : List X} {rest : List ℕ} {x : X} {after : List ℕ} {new : List X} {given : X} → ReadSoFar t Is text items rest →
+      BeginsWith t Is rest x after → new ≡ items ++ given ∷ [] → given ≡ x → ReadSoFar t Is text new after
   so_far_more {text} {items} {rest} {x} {after} {new} {given} so b is same =
       let all : items ++ x ∷ [] ≡ new = sym (is ∙ ap (λ n. items ++ n ∷ []) same) in
       subst (λ (xs : List X). ReadSoFar t Is text xs after) all

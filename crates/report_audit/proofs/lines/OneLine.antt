@@ -5,7 +5,18 @@ use Rattle.dispatch_report.specs.declared.block_line.BlockLine.TheVariants.{Batc
 use Rattle.std.specs.List.{All, flat_map}
 use Rattle.report_audit.proofs.lines.StopLemmas.{order_ends, stop_item}
 use Rattle.report_audit.proofs.lines.ListLemmas.{many_end, many_of_one, spaced_item}
-use Rattle.report_audit.proofs.lemmas.lines.ReadingLemmas.{EndsOnce, TextIsOfOne, both_of_one, both_once, numbered_below, numbered_once, numbered_within, of_one, spaced_apart, spaced_ends}
+use Rattle.report_audit.proofs.lemmas.lines.ReadingLemmas.{
+  EndsOnce,
+  TextIsOfOne,
+  both_of_one,
+  both_once,
+  numbered_below,
+  numbered_once,
+  numbered_within,
+  of_one,
+  spaced_apart,
+  spaced_ends,
+}
 use Rattle.report_audit.proofs.lines.SignedLemmas.{signed_words_once, long_item}
 use Rattle.report_audit.proofs.lemmas.lines.NumeralLemmas.{no_number}
 use Rattle.dispatch_report.specs.declared.block_line.TripText.{TripText}
@@ -62,7 +73,8 @@ order_of_one (da, Some a) (db, Some b) ia ib e =
 late_of_one : TextIsOfOne (λ x. block_line_text (Late x)) (λ x. IsBlockLine (Late x))
 late_of_one a b ia ib e =
     let late : ℕ × (ℕ × Option (List PlannedStop)) → LateText = λ p. record { vehicle = p.0; delay = p.1.0; stops = p.1.1 } in
-    ap late (both_of_one order_text IsOrder order_ends (id_once (codes "late ")) order_of_one (a.vehicle, (a.delay, a.stops)) (b.vehicle, (b.delay, b.stops)) (ia.0, ia.1) (ib.0, ib.1) e)
+    ap late (both_of_one order_text IsOrder order_ends (id_once (codes "late ")) order_of_one (a.vehicle, (a.delay, a.stops)) (b.vehicle, (b.delay, b.stops))
+    (ia.0, ia.1) (ib.0, ib.1) e)
 
 -- the first three bytes of a line, which tell its kind
 abbrev first_bytes : List ℕ → ℕ
@@ -89,7 +101,8 @@ block_line_of_one (Cost x) (Cost y) ix iy e = ap Cost (numbered_below (codes "co
 block_line_of_one (Bound x) (Bound y) ix iy e = ap Bound (of_one (signed_words_once (codes "bound ")) x y ix iy e)
 block_line_of_one (Nodes x) (Nodes y) ix iy e = ap Nodes (numbered_below (codes "nodes ") x y ix iy e)
 block_line_of_one (Branch x) (Branch y) ix iy e = ap Branch (of_one (head_once (codes "branch ") (2 ^ 32) (omega arith)) x y ix iy e)
-block_line_of_one (Leaf x) (Leaf y) ix iy e = ap Leaf (many_of_one long_item x y ix iy (append_cancel_left (codes "leaf") (flat_map (signed (codes " ")) x) (flat_map (signed (codes " ")) y) e))
+block_line_of_one (Leaf x) (Leaf y) ix iy e =
+    ap Leaf (many_of_one long_item x y ix iy (append_cancel_left (codes "leaf") (flat_map (signed (codes " ")) x) (flat_map (signed (codes " ")) y) e))
 block_line_of_one Dead Dead ix iy e = refl
 block_line_of_one End End ix iy e = refl
 block_line_of_one _ _ ix iy e = absurd (kinds_differ _ _ e refl)

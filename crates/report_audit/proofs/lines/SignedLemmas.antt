@@ -1,5 +1,30 @@
 -- Signed numbers at the beginning of a text.
-use Rattle.std.proofs.Common.{◌≡◌, ℕ, suc, ◌≤◌, ◌<◌, ◌^◌, true, ℤ, pos, negsuc, to_z, of_z, w64, List, ◌∷◌, ◌++◌, decimal, codes, refl, sym, ◌∙◌, subst, arith, rules}
+use Rattle.std.proofs.Common.{
+  ◌≡◌,
+  ℕ,
+  suc,
+  ◌≤◌,
+  ◌<◌,
+  ◌^◌,
+  true,
+  ℤ,
+  pos,
+  negsuc,
+  to_z,
+  of_z,
+  w64,
+  List,
+  ◌∷◌,
+  ◌++◌,
+  decimal,
+  codes,
+  refl,
+  sym,
+  ◌∙◌,
+  subst,
+  arith,
+  rules,
+}
 use Rattle.report_audit.proofs.Common.{signed, BeginsWith, BeginsWithNone, ends_number, IsWide, IsLong}
 use Rattle.std.specs.Fmt.{signed_decimal}
 use Rattle.std.specs.Int.{w128}
@@ -7,14 +32,16 @@ use Rattle.report_audit.proofs.lines.ListLemmas.{IsItem}
 use Rattle.report_audit.proofs.lemmas.lines.NumeralLemmas.{no_number}
 use Rattle.report_audit.proofs.lemmas.lines.ReadingLemmas.{EndsOnce, decimal_once, behind_once}
 
-below_begins : (text : List ℕ) (n : ℕ) (rest : List ℕ) → n < 2 ^ 127 → ends_number rest ≡ true → 45 ∷ text ≡ signed_decimal (negsuc n) ++ rest → BeginsWith decimal (λ m. m ≤ 2 ^ 127) text (suc n) rest
+below_begins : (text : List ℕ) (n : ℕ) (rest : List ℕ) → n < 2 ^ 127 → ends_number rest ≡ true → 45 ∷ text ≡ signed_decimal (negsuc n) ++ rest →
+    BeginsWith decimal (λ m. m ≤ 2 ^ 127) text (suc n) rest
 below_begins text n rest small ends e = search rules
 
 pub below_none : (text : List ℕ) → BeginsWithNone decimal (λ m. m ≤ 2 ^ 127) text → BeginsWithNone signed_decimal IsWide (45 ∷ text)
 below_none text none (pos n) rest b = no_number 45 text n rest refl (let small : n < 2 ^ 127 = b.lawful in omega arith) b.whole
 below_none text none (negsuc n) rest b = none (suc n) rest (below_begins text n rest b.lawful b.ends b.whole)
 
-pub below_zero_none : (text : List ℕ) (m : ℕ) (after : List ℕ) → BeginsWith decimal (λ m. m ≤ 2 ^ 127) text m after → m ≡ 0 → BeginsWithNone signed_decimal IsWide (45 ∷ text)
+pub below_zero_none : (text : List ℕ) (m : ℕ) (after : List ℕ) → BeginsWith decimal (λ m. m ≤ 2 ^ 127) text m after → m ≡ 0 →
+    BeginsWithNone signed_decimal IsWide (45 ∷ text)
 below_zero_none text m after first zero (pos n) rest b = no_number 45 text n rest refl (let small : n < 2 ^ 127 = b.lawful in omega arith) b.whole
 below_zero_none text m after first zero (negsuc n) rest b =
     let same : m ≡ suc n = ((decimal_once (2 ^ 127) (omega arith)).once text m (suc n) after rest first (below_begins text n rest b.lawful b.ends b.whole)).0 in
@@ -55,7 +82,8 @@ long_is_wide (negsuc n) is = let small : n < 2 ^ 63 = is in omega arith
 widened : (words text : List ℕ) (z : ℤ) (rest : List ℕ) → BeginsWith (signed words) IsLong text z rest → BeginsWith (signed words) IsWide text z rest
 widened words text z rest b = record { whole = b.whole; lawful = long_is_wide z b.lawful; ends = b.ends }
 
-pub not_long : (words text : List ℕ) (z : ℤ) (rest : List ℕ) → BeginsWith (signed words) IsWide text z rest → (IsLong z → ⊥) → BeginsWithNone (signed words) IsLong text
+pub not_long : (words text : List ℕ) (z : ℤ) (rest : List ℕ) → BeginsWith (signed words) IsWide text z rest → (IsLong z → ⊥) →
+    BeginsWithNone (signed words) IsLong text
 not_long words text z rest b other x r bx =
     other (subst IsLong ((signed_words_once words).once text x z r rest (widened words text x r bx) b).0 bx.lawful)
 

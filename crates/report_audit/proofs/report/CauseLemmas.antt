@@ -1,6 +1,20 @@
 -- A text ends at a place for one cause.
 use Rattle.std.proofs.Common.{◌≡◌, ◌≢◌, ℕ, true, List, [], ◌∷◌, ◌++◌, refl, sym, ap, ◌∙◌, subst, rules}
-use Rattle.report_audit.proofs.Common.{BlockRefusal, Extent, IsInForm, MayFollow, position_behind, IsCut, IsOutOfForm, IsWrongBatch, IsWrongLine, is_one_line, IsFirstLine, Settings, Roads}
+use Rattle.report_audit.proofs.Common.{
+  BlockRefusal,
+  Extent,
+  IsInForm,
+  MayFollow,
+  position_behind,
+  IsCut,
+  IsOutOfForm,
+  IsWrongBatch,
+  IsWrongLine,
+  is_one_line,
+  IsFirstLine,
+  Settings,
+  Roads,
+}
 use Rattle.report_audit.proofs.lemmas.lines.OneBlock.{no_one_line}
 use Rattle.report_audit.proofs.lemmas.block.AuditLemmas.{one_refusal}
 use Rattle.report_audit.proofs.lemmas.lines.LineLemmas.{first_once}
@@ -42,25 +56,38 @@ module _ (settings : Settings) (roads : Roads) where
     pub follow : MayFollow settings roads place line
 
   -- then a text ends at a block alone
-  pub stands_end : (place : Extent) (text : List ℕ) → Stands place text → (cause : Cause) → Ends cause settings roads place text → (refused : BlockRefusal) × (cause ≡ Block refused) × IsWrongBatch refused settings roads place text
+  pub stands_end : (place : Extent) (text : List ℕ) → Stands place text → (cause : Cause) → Ends cause settings roads place text →
+      (refused : BlockRefusal) × (cause ≡ Block refused) × IsWrongBatch refused settings roads place text
   stands_end place text s Over ends = absurd (no_line text s.line s.after s.has ends.1)
   stands_end place text s Cut ends = absurd (cut_line place text s.line s.after s.has ends)
   stands_end place text s Form ends = absurd (ends.3 (subst (IsInForm place) (sym (first_once text ends.0 s.line ends.1 s.after ends.2 s.has).0) s.form))
-  stands_end place text s Wrong ends = absurd (ends.4 (subst (MayFollow settings roads place) (sym (first_once text ends.0 s.line ends.1 s.after ends.2 s.has).0) s.follow))
+  stands_end place text s Wrong ends = absurd
+      (ends.4 (subst (MayFollow settings roads place) (sym (first_once text ends.0 s.line ends.1 s.after ends.2 s.has).0) s.follow))
   stands_end place text s (Block refused) ends = (refused, refl, ends)
 
   block_stands : (place : Extent) (text : List ℕ) (refused : BlockRefusal) → IsWrongBatch refused settings roads place text → Stands place text
   block_stands (Extent.within round j) text refused wrong =
-      record { line = wrong.line; after = wrong.after; has = wrong.has; form = (EntryOf wrong.closing.lane, (position_behind j, wrong.closing, wrong.comes.line, refl, wrong.line_is)); follow = (wrong.closing, wrong.comes, wrong.line_is) }
+      record {
+        line = wrong.line;
+        after = wrong.after;
+        has = wrong.has;
+        form = (
+          EntryOf wrong.closing.lane,
+          (position_behind j, wrong.closing, wrong.comes.line, refl, wrong.line_is),
+        );
+        follow = (wrong.closing, wrong.comes, wrong.line_is);
+      }
   block_stands _ text refused wrong = absurd wrong
 
-  one_block : (place : Extent) (text : List ℕ) (one other : BlockRefusal) → one ≢ refusal.OutOfMemory → other ≢ refusal.OutOfMemory → IsWrongBatch one settings roads place text → IsWrongBatch other settings roads place text → one ≡ other
+  one_block : (place : Extent) (text : List ℕ) (one other : BlockRefusal) → one ≢ refusal.OutOfMemory → other ≢ refusal.OutOfMemory →
+      IsWrongBatch one settings roads place text → IsWrongBatch other settings roads place text → one ≡ other
   one_block (Extent.within round j) text one other known also a b =
       search (rules, first_once text a.line b.line a.after b.after a.has b.has, one_refusal settings roads b.batch b.after one other)
   one_block _ text one other known also a b = absurd a
 
   -- a text ends at a place for one cause
-  pub one_cause : (place : Extent) (text : List ℕ) (one other : Cause) → one ≢ Block refusal.OutOfMemory → other ≢ Block refusal.OutOfMemory → Ends one settings roads place text → Ends other settings roads place text → one ≡ other
+  pub one_cause : (place : Extent) (text : List ℕ) (one other : Cause) → one ≢ Block refusal.OutOfMemory → other ≢ Block refusal.OutOfMemory →
+      Ends one settings roads place text → Ends other settings roads place text → one ≡ other
   one_cause place text Over Over known also a b = refl
   one_cause place text Cut Cut known also a b = refl
   one_cause place text Form Form known also a b = refl

@@ -1,6 +1,75 @@
 -- Lanes, entry by entry.
-use Rattle.std.proofs.Common.{◌≡◌, ◌≢◌, ◌==◌, ℕ, zero, suc, ◌<◌, ◌≤◌, List, [], ◌∷◌, ◌++◌, length, set, drop, slice_get, Option, Some, None, refl, sym, ap, ◌∙◌, subst, ⊎_elim, arith, append-nil, append_assoc, eq-eqb, option_map, rules}
-use Rattle.report_audit.proofs.Common.{cases_eq, cond-true, get_or_past, Batch, of_lane, IsLaneRun, IsLaneRunFrom, IsLaneBeginning, last_sealed, plain-quiet, LaneProgress, at_start, progress_at, IsRest, IsNext, IsNextFrom, progress_after, HaveCome, AreDone, IsNoClose, step, Command, Close, Entry, Outcome, Reply, Accepted, Closed, State, NumberedLanes, IsRound, MayStand, lane_at, sealed_by, snapshot_before, Waits}
+use Rattle.std.proofs.Common.{
+  ◌≡◌,
+  ◌≢◌,
+  ◌==◌,
+  ℕ,
+  zero,
+  suc,
+  ◌<◌,
+  ◌≤◌,
+  List,
+  [],
+  ◌∷◌,
+  ◌++◌,
+  length,
+  set,
+  drop,
+  slice_get,
+  Option,
+  Some,
+  None,
+  refl,
+  sym,
+  ap,
+  ◌∙◌,
+  subst,
+  ⊎_elim,
+  arith,
+  append-nil,
+  append_assoc,
+  eq-eqb,
+  option_map,
+  rules,
+}
+use Rattle.report_audit.proofs.Common.{
+  cases_eq,
+  cond-true,
+  get_or_past,
+  Batch,
+  of_lane,
+  IsLaneRun,
+  IsLaneRunFrom,
+  IsLaneBeginning,
+  last_sealed,
+  plain-quiet,
+  LaneProgress,
+  at_start,
+  progress_at,
+  IsRest,
+  IsNext,
+  IsNextFrom,
+  progress_after,
+  HaveCome,
+  AreDone,
+  IsNoClose,
+  step,
+  Command,
+  Close,
+  Entry,
+  Outcome,
+  Reply,
+  Accepted,
+  Closed,
+  State,
+  NumberedLanes,
+  IsRound,
+  MayStand,
+  lane_at,
+  sealed_by,
+  snapshot_before,
+  Waits,
+}
 use Rattle.std.proofs.lemmas.List.{get_or-set_same, get_or-set_other}
 use Rattle.std.proofs.lemmas.List.Elements.{filter-append}
 use Rattle.dispatch_engine.proofs.lemmas.lanes.StandLemmas.{stands-plain}
@@ -41,17 +110,20 @@ pub can_end : (commands : List Command) (progress : LaneProgress) → (rest : Li
 can_end commands progress = can_end_from progress.pending (drop progress.taken commands)
 
 -- what comes next is the first of what is left
-next_first : (taken : ℕ) (cs : List Command) (e : Entry) (rest : List Entry) → IsLaneRunFrom None (drop taken cs) (e ∷ rest) → slice_get cs taken ≡ Some e.command
+next_first : (taken : ℕ) (cs : List Command) (e : Entry) (rest : List Entry) → IsLaneRunFrom None (drop taken cs) (e ∷ rest) →
+    slice_get cs taken ≡ Some e.command
 next_first zero [] e rest run = absurd run
 next_first zero (c ∷ cs) e rest run = ap Some (sym run.0)
 next_first (suc k) [] e rest run = absurd run
 next_first (suc k) (c ∷ cs) e rest run = next_first k cs e rest run
 
-next_from : (pending : Option ℕ) (taken : ℕ) (cs : List Command) (e : Entry) (rest : List Entry) → IsLaneRunFrom pending (drop taken cs) (e ∷ rest) → IsNextFrom pending taken cs e.command
+next_from : (pending : Option ℕ) (taken : ℕ) (cs : List Command) (e : Entry) (rest : List Entry) → IsLaneRunFrom pending (drop taken cs) (e ∷ rest) →
+    IsNextFrom pending taken cs e.command
 next_from None taken cs e rest run = next_first taken cs e rest run
 next_from (Some batch) taken cs e rest run = run.0
 
-pub rest_next : (commands : List Command) (progress : LaneProgress) (e : Entry) (rest : List Entry) → IsRest commands progress (e ∷ rest) → IsNext commands progress e.command
+pub rest_next : (commands : List Command) (progress : LaneProgress) (e : Entry) (rest : List Entry) → IsRest commands progress (e ∷ rest) →
+    IsNext commands progress e.command
 rest_next commands progress e rest run = next_from progress.pending progress.taken commands e rest run
 
 -- an entry begins what is left of its lane exactly where its command is the next
@@ -64,16 +136,19 @@ begins_next round lanes es e come begins =
     ((come e.lane (e ∷ begins.0)).1 (subst (IsLaneRun (lane_at round e.lane)) text begins.1))
 
 -- each lane's entries begin a run of it
-pub come_begins : (round : NumberedLanes) (lanes : List LaneProgress) (es : List Entry) → HaveCome round lanes es → (lane : ℕ) → IsLaneBeginning (lane_at round lane) (of_lane lane es)
+pub come_begins : (round : NumberedLanes) (lanes : List LaneProgress) (es : List Entry) → HaveCome round lanes es → (lane : ℕ) →
+    IsLaneBeginning (lane_at round lane) (of_lane lane es)
 come_begins round lanes es come lane =
     let end = can_end (lane_at round lane) (progress_at lanes lane) in
     (end.0, (come lane end.0).0 end.1)
 
 -- the lanes are done exactly where each is at its end
-pub done_end : (round : NumberedLanes) (lanes : List LaneProgress) (es : List Entry) → HaveCome round lanes es → AreDone round lanes → (lane : ℕ) → IsLaneRun (lane_at round lane) (of_lane lane es)
+pub done_end : (round : NumberedLanes) (lanes : List LaneProgress) (es : List Entry) → HaveCome round lanes es → AreDone round lanes → (lane : ℕ) →
+    IsLaneRun (lane_at round lane) (of_lane lane es)
 done_end round lanes es come done lane = subst (IsLaneRun (lane_at round lane)) (append-nil (of_lane lane es)) ((come lane []).0 (done lane))
 
-pub end_done : (round : NumberedLanes) (lanes : List LaneProgress) (es : List Entry) → HaveCome round lanes es → ((lane : ℕ) → IsLaneRun (lane_at round lane) (of_lane lane es)) → AreDone round lanes
+pub end_done : (round : NumberedLanes) (lanes : List LaneProgress) (es : List Entry) → HaveCome round lanes es →
+    ((lane : ℕ) → IsLaneRun (lane_at round lane) (of_lane lane es)) → AreDone round lanes
 end_done round lanes es come end lane = (come lane []).1 (subst (IsLaneRun (lane_at round lane)) (sym (append-nil (of_lane lane es))) (end lane))
 
 -- which batch a lane waits for
@@ -99,10 +174,12 @@ after_some : (progress : LaneProgress) (batch : ℕ) (reply : Reply) → progres
 after_some progress batch reply e = rw e refl
 
 -- behind a command of a lane that waits for no close
-pub waits_command : (nodes : List ℕ) (wait : ℕ) (s : State) (lanes : List LaneProgress) (lane : ℕ) (command : Command) → lane < length lanes → Waits lanes s.sealed
+pub waits_command : (nodes : List ℕ) (wait : ℕ) (s : State) (lanes : List LaneProgress) (lane : ℕ) (command : Command) → lane < length lanes →
+    Waits lanes s.sealed
     → (progress_at lanes lane).pending ≡ None → MayStand lane command
     → Waits (set lanes lane (progress_after (progress_at lanes lane) (step nodes wait s command).1)) (step nodes wait s command).0.sealed
-waits_command nodes wait s lanes lane command low waits pending stands = ⊎_elim (λ (zeroth : lane ≡ 0). at_zero zeroth) (λ (other : lane ≢ 0). elsewhere other) (cases_eq lane 0)
+waits_command nodes wait s lanes lane command low waits pending stands = ⊎_elim (λ (zeroth : lane ≡ 0). at_zero zeroth) (λ (other : lane ≢ 0). elsewhere other)
+    (cases_eq lane 0)
   where
     reply : Reply
     reply = (step nodes wait s command).1
@@ -118,14 +195,16 @@ waits_command nodes wait s lanes lane command low waits pending stands = ⊎_eli
         let new : List LaneProgress = set lanes lane (progress_after (progress_at lanes lane) (step nodes wait s command).1) in
         let open_none : s.sealed ≡ None = number_none s.sealed (sym pending ∙ ap (λ (k : ℕ). (progress_at lanes k).pending) zeroth ∙ waits.first) in
         let sealed : snapshot_before wait s command ≡ (step nodes wait s command).0.sealed =
-        last_none (snapshot_before wait s command) ∙ ap (λ (o : Option Batch). last_sealed o (snapshot_before wait s command)) (sym open_none) ∙ sealed-after nodes wait s command (no_close_of lane command stands) in
+        last_none (snapshot_before wait s command) ∙ ap (λ (o : Option Batch). last_sealed o (snapshot_before wait s command)) (sym open_none) ∙
+        sealed-after nodes wait s command (no_close_of lane command stands) in
         let here : (progress_at new 0).pending ≡ sealed_by (step nodes wait s command).1 =
         ap (λ (k : ℕ). (progress_at new k).pending) (sym zeroth)
         ∙ ap (λ (t : LaneProgress). t.pending) (progress_same lanes lane (progress_after (progress_at lanes lane) (step nodes wait s command).1) low)
         ∙ after_none (progress_at lanes lane) (step nodes wait s command).1 pending in
         record {
           first = here ∙ sym (step-sealed nodes wait s command) ∙ ap (option_map (λ b. b.number)) sealed;
-          others = λ k other. ap (λ (t : LaneProgress). t.pending) (progress_other lanes lane (progress_after (progress_at lanes lane) (step nodes wait s command).1) low k (λ e. other (e ∙ zeroth))) ∙ waits.others k other;
+          others = λ k other. ap (λ (t : LaneProgress). t.pending) (progress_other lanes lane
+              (progress_after (progress_at lanes lane) (step nodes wait s command).1) low k (λ e. other (e ∙ zeroth))) ∙ waits.others k other;
         }
       where
         last_none : (o : Option Batch) → o ≡ last_sealed None o
@@ -141,15 +220,18 @@ pub waits_close : (lanes : List LaneProgress) (lane batch : ℕ) (sealed : Optio
 waits_close lanes lane batch sealed low waits pending = search (rules, progress_after, progress_at, progress_same, after_some, cases_eq, progress_other)
 
 -- the batch that a lane waits for is the one that is sealed
-pub waits_for : (lanes : List LaneProgress) (lane batch : ℕ) (b : Batch) (sealed : Option Batch) → Waits lanes sealed → (progress_at lanes lane).pending ≡ Some batch → sealed ≡ Some b → batch ≡ b.number
+pub waits_for : (lanes : List LaneProgress) (lane batch : ℕ) (b : Batch) (sealed : Option Batch) → Waits lanes sealed →
+    (progress_at lanes lane).pending ≡ Some batch → sealed ≡ Some b → batch ≡ b.number
 waits_for lanes lane batch b sealed waits pending is = search (rules, cases_eq, progress_at, option_map)
 
 -- no lane from the sixteenth on has a command
-pub none_beyond : (round : NumberedLanes) (lanes : List LaneProgress) (lane : ℕ) (command : Command) → IsRound round → length lanes ≡ 16 → 16 ≤ lane → IsNext (lane_at round lane) (progress_at lanes lane) command → ⊥
+pub none_beyond : (round : NumberedLanes) (lanes : List LaneProgress) (lane : ℕ) (command : Command) → IsRound round → length lanes ≡ 16 → 16 ≤ lane →
+    IsNext (lane_at round lane) (progress_at lanes lane) command → ⊥
 none_beyond round lanes lane command kept sixteen high next =
     let none : lane_at round lane ≡ [] = get_or_past round.lanes lane [] (let n = kept.sixteen in omega (arith, n, high)) in
     let start : progress_at lanes lane ≡ at_start = get_or_past lanes lane at_start (omega (arith, sixteen, high)) in
-    let at : IsNext [] at_start command = subst (λ (s : LaneProgress). IsNext [] s command) start (subst (λ (cs : List Command). IsNext cs (progress_at lanes lane) command) none next) in
+    let at : IsNext [] at_start command = subst (λ (s : LaneProgress). IsNext [] s command) start
+    (subst (λ (cs : List Command). IsNext cs (progress_at lanes lane) command) none next) in
     absurd (nothing command at)
   where
     nothing : (c : Command) → slice_get [] 0 ≡ Some c → ⊥

@@ -1,6 +1,27 @@
 -- A reply of the book tells how a rider's request ended only where it did.
 use Rattle.std.proofs.Common.{◌≡◌, ℕ, List, refl, sym, ap, subst, arith}
-use Rattle.report_audit.proofs.Common.{BookView, IsApplied, cancel, close, dropoff, pickup, report, seal, step, submit, Command, Ended, Reply, Refused, Status, Waiting, Promised, Aboard, State, TellsEnd}
+use Rattle.report_audit.proofs.Common.{
+  BookView,
+  IsApplied,
+  cancel,
+  close,
+  dropoff,
+  pickup,
+  report,
+  seal,
+  step,
+  submit,
+  Command,
+  Ended,
+  Reply,
+  Refused,
+  Status,
+  Waiting,
+  Promised,
+  Aboard,
+  State,
+  TellsEnd,
+}
 use Rattle.dispatch_report.specs.Fits.{IsEnded}
 
 ended : (nodes : List ℕ) (wait : ℕ) (s : State) (c : Command) (status : Status) → (step nodes wait s c).1 ≡ Refused (Ended status) → IsEnded status

@@ -1,6 +1,71 @@
 -- Texts of entries and rounds.
-use Rattle.std.proofs.Common.{◌≡◌, ℕ, ◌<◌, ◌^◌, Bool, true, false, cond, eqb, List, [], ◌∷◌, ◌++◌, codes, decimal, Some, None, refl, sym, ap, ◌∙◌, append_assoc, arith, rules}
-use Rattle.report_audit.proofs.Common.{command_text, entry_line, refusal_text, reply_text, rider_status_text, lines_text, entries_lines, entry_block, round_text, end_text, numbered, spaced, one_more, is_one_line, next_position, Command, Submit, Cancel, Report, Pickup, Dropoff, Seal, Close, Entry, Journal, BookRefusal, IsAboard, Ended, TimeBack, NotPromised, BatchOpen, ClockBack, NotThisBatch, Reply, Sealed, Refused, Status, Waiting, entries_text}
+use Rattle.std.proofs.Common.{
+  ◌≡◌,
+  ℕ,
+  ◌<◌,
+  ◌^◌,
+  Bool,
+  true,
+  false,
+  cond,
+  eqb,
+  List,
+  [],
+  ◌∷◌,
+  ◌++◌,
+  codes,
+  decimal,
+  Some,
+  None,
+  refl,
+  sym,
+  ap,
+  ◌∙◌,
+  append_assoc,
+  arith,
+  rules,
+}
+use Rattle.report_audit.proofs.Common.{
+  command_text,
+  entry_line,
+  refusal_text,
+  reply_text,
+  rider_status_text,
+  lines_text,
+  entries_lines,
+  entry_block,
+  round_text,
+  end_text,
+  numbered,
+  spaced,
+  one_more,
+  is_one_line,
+  next_position,
+  Command,
+  Submit,
+  Cancel,
+  Report,
+  Pickup,
+  Dropoff,
+  Seal,
+  Close,
+  Entry,
+  Journal,
+  BookRefusal,
+  IsAboard,
+  Ended,
+  TimeBack,
+  NotPromised,
+  BatchOpen,
+  ClockBack,
+  NotThisBatch,
+  Reply,
+  Sealed,
+  Refused,
+  Status,
+  Waiting,
+  entries_text,
+}
 use Rattle.report_audit.proofs.lemmas.lines.OneBlock.{append_one_line, numbered_one_line, spaced_one_line, two_line}
 use Rattle.std.specs.List.{flat_map}
 use Rattle.std.proofs.lemmas.Grind.{flat_map-append}
@@ -33,7 +98,8 @@ pub entries-none : (p : ℕ) → entries_text p [] ≡ []
 unfolding entries_lines
 entries-none p = lines-none
 
-pub entries-more : (p : ℕ) (e : Entry) (es : List Entry) → entries_text p (e ∷ es) ≡ entry_line p e ++ 10 ∷ (lines_text (entry_block true e.command e.reply) ++ entries_text (one_more p) es)
+pub entries-more : (p : ℕ) (e : Entry) (es : List Entry) → entries_text p (e ∷ es) ≡ entry_line p e ++ 10 ∷
+    (lines_text (entry_block true e.command e.reply) ++ entries_text (one_more p) es)
 unfolding entries_lines
 entries-more p e es = search (rules, entry_block, entries_lines, one_more, lines-append, entry_line, lines_text, lines-more, append_assoc)
 
@@ -63,7 +129,8 @@ three_one words a b c one = append_one_line (numbered words a ++ spaced b) (spac
 command_one : (c : Command) → is_one_line (command_text c) ≡ true
 command_one (Submit rider origin destination time party) =
     append_one_line (numbered (codes "submit ") rider ++ spaced origin ++ spaced destination ++ spaced time) (cond (eqb party 1) [] (spaced party))
-    (append_one_line (numbered (codes "submit ") rider ++ spaced origin ++ spaced destination) (spaced time) (three_one (codes "submit ") rider origin destination refl) (spaced_one_line time))
+    (append_one_line (numbered (codes "submit ") rider ++ spaced origin ++ spaced destination) (spaced time)
+    (three_one (codes "submit ") rider origin destination refl) (spaced_one_line time))
     (by (eqb party 1))
   where
     by : (b : Bool) → is_one_line (cond b [] (spaced party)) ≡ true
@@ -100,7 +167,8 @@ reply_one _ = refl
 pub entry_one : (p : ℕ) (e : Entry) → is_one_line (entry_line p e) ≡ true
 unfolding numbered
 entry_one p e =
-    let front : is_one_line (decimal p ++ spaced e.lane ++ codes " ") ≡ true = append_one_line (decimal p ++ spaced e.lane) (codes " ") (two_line [] p e.lane refl) refl in
+    let front : is_one_line (decimal p ++ spaced e.lane ++ codes " ") ≡ true = append_one_line (decimal p ++ spaced e.lane) (codes " ")
+    (two_line [] p e.lane refl) refl in
     append_one_line (decimal p ++ spaced e.lane ++ codes " " ++ command_text e.command ++ codes " ") (reply_text e.reply)
     (append_one_line (decimal p ++ spaced e.lane ++ codes " " ++ command_text e.command) (codes " ")
     (append_one_line (decimal p ++ spaced e.lane ++ codes " ") (command_text e.command) front (command_one e.command)) refl)

@@ -1,7 +1,83 @@
 -- Every step keeps that the state names nodes of the network alone.
 use Rattle.std.proofs.lemmas.Bool.Decides.{nat_tests}
 use Rattle.std.proofs.Common.{rules, arith, ◌≡◌, ℕ, ◌&&◌, List, [], ◌∷◌, ◌++◌, map, Option, Some, None, refl, sym, ap, subst, ◌∙◌, option_and_then}
-use Rattle.request_book.proofs.Common.{first_of, cond_both, All-nil, All-cons, All-head, All-tail, All-append, All-push, All-map, All-weaker, Passenger, Rider, Vehicle, Command, Submit, Cancel, Report, Pickup, Dropoff, Seal, Close, Answer, Overflow, Planned, Accepted, Cancelled, Placed, Picked, Dropped, BookRider, Status, Aboard, Delivered, Expired, State, after_answer, after_plan, picks, in_batch, takes_in, lets_out, asking, planned_status, IsConsistent, IsNode, NamesNodes, seat_in, KeysDiffer, by_key, unknown_node, is_active, with_status, passenger_of, is_over, after_seal, batch_of, sealed_state, find_rider, find_vehicle, find_passenger, rider_becomes, vehicle_becomes, step, stands_at, picked_up, dropped_off, submit_refusal, submit_step, cancel_step, report_step, pickup_step, dropoff_step, seal_step, close_step, table_step}
+use Rattle.request_book.proofs.Common.{
+  first_of,
+  cond_both,
+  All-nil,
+  All-cons,
+  All-head,
+  All-tail,
+  All-append,
+  All-push,
+  All-map,
+  All-weaker,
+  Passenger,
+  Rider,
+  Vehicle,
+  Command,
+  Submit,
+  Cancel,
+  Report,
+  Pickup,
+  Dropoff,
+  Seal,
+  Close,
+  Answer,
+  Overflow,
+  Planned,
+  Accepted,
+  Cancelled,
+  Placed,
+  Picked,
+  Dropped,
+  BookRider,
+  Status,
+  Aboard,
+  Delivered,
+  Expired,
+  State,
+  after_answer,
+  after_plan,
+  picks,
+  in_batch,
+  takes_in,
+  lets_out,
+  asking,
+  planned_status,
+  IsConsistent,
+  IsNode,
+  NamesNodes,
+  seat_in,
+  KeysDiffer,
+  by_key,
+  unknown_node,
+  is_active,
+  with_status,
+  passenger_of,
+  is_over,
+  after_seal,
+  batch_of,
+  sealed_state,
+  find_rider,
+  find_vehicle,
+  find_passenger,
+  rider_becomes,
+  vehicle_becomes,
+  step,
+  stands_at,
+  picked_up,
+  dropped_off,
+  submit_refusal,
+  submit_step,
+  cancel_step,
+  report_step,
+  pickup_step,
+  dropoff_step,
+  seal_step,
+  close_step,
+  table_step,
+}
 use Rattle.std.specs.List.{All, filter_map, flat_map}
 use Rattle.request_book.specs.Points.{named_nodes}
 use Rattle.request_book.specs.lemmas.Points.{vehicle_nodes, rider_nodes}
@@ -32,7 +108,8 @@ module _ (nodes : List ℕ) where
   rider_becomes-named : (s : State) (k : ℕ) (status : Status) → IsConsistent s → NamesNodes nodes s → NamesNodes nodes (rider_becomes s k status)
   rider_becomes-named s k status kept named = search (rules, All-changed_at)
 
-  vehicle_becomes-named : (s : State) (x : ℕ) (f : Vehicle → Vehicle) → KeysDiffer (λ v. v.id) s.vehicles → ((v : Vehicle) → IsNode nodes (f v).node) → NamesNodes nodes s → NamesNodes nodes (vehicle_becomes s x f)
+  vehicle_becomes-named : (s : State) (x : ℕ) (f : Vehicle → Vehicle) → KeysDiffer (λ v. v.id) s.vehicles → ((v : Vehicle) → IsNode nodes (f v).node) →
+      NamesNodes nodes s → NamesNodes nodes (vehicle_becomes s x f)
   vehicle_becomes-named s x f once at named = search (rules, All-changed_at)
 
   submit-named : (s : State) (r : BookRider) → NamesNodes nodes s → NamesNodes nodes (submit_step nodes s r).0
@@ -86,7 +163,8 @@ module _ (nodes : List ℕ) where
     rider-named : (k : ℕ) (r : BookRider) → find_rider k s.riders ≡ Some r → HasNodes r
     rider-named k r found = All-look_up (λ (r : BookRider). r.id) HasNodes k s.riders r named.riders found
 
-    seat-named : (x k : ℕ) (v : Vehicle) (p : Passenger) → find_vehicle x s.vehicles ≡ Some v → find_passenger k v.aboard.items ≡ Some p → All (IsNode nodes) (p.origin ∷ p.destination ∷ [])
+    seat-named : (x k : ℕ) (v : Vehicle) (p : Passenger) → find_vehicle x s.vehicles ≡ Some v → find_passenger k v.aboard.items ≡ Some p →
+        All (IsNode nodes) (p.origin ∷ p.destination ∷ [])
     seat-named x k v p at seated =
         by (find_rider k s.riders) refl
         (sym (sym (ap (option_and_then (λ (u : Vehicle). find_passenger k u.aboard.items)) at) ∙ kept.aboard x k) ∙ seated)
@@ -109,7 +187,8 @@ module _ (nodes : List ℕ) where
     batch-named : All (IsNode nodes) (named_nodes (batch_of wait s now))
     unfolding batch_of
     batch-named =
-        All-append (IsNode nodes) (flat_map vehicle_nodes s.vehicles) (flat_map rider_nodes (by_key (λ r. r.id) (filter_map (asking now) (map (after_seal wait now) s.riders))))
+        All-append (IsNode nodes) (flat_map vehicle_nodes s.vehicles)
+        (flat_map rider_nodes (by_key (λ r. r.id) (filter_map (asking now) (map (after_seal wait now) s.riders))))
         (All-flat_map (IsNode nodes) vehicle_nodes s.vehicles
         (All-from_look_up (λ (v : Vehicle). v.id) (λ (v : Vehicle). All (IsNode nodes) (vehicle_nodes v)) s.vehicles (differ s kept) vehicle-named))
         (All-flat_map (IsNode nodes) rider_nodes (by_key (λ r. r.id) (filter_map (asking now) (map (after_seal wait now) s.riders)))
@@ -120,7 +199,8 @@ module _ (nodes : List ℕ) where
     sealed-named : NamesNodes nodes (sealed_state wait s now)
     unfolding sealed_state
     sealed-named = record {
-      riders = All-map HasNodes (after_seal wait now) s.riders (All-weaker HasNodes (λ r. HasNodes (after_seal wait now r)) (λ r has. cond_both (is_over wait now r) (with_status Expired r) r HasNodes (λ b. has) (λ b. has)) s.riders named.riders);
+      riders = All-map HasNodes (after_seal wait now) s.riders (All-weaker HasNodes (λ r. HasNodes (after_seal wait now r))
+          (λ r has. cond_both (is_over wait now r) (with_status Expired r) r HasNodes (λ b. has) (λ b. has)) s.riders named.riders);
       vehicles = named.vehicles;
       sealed = λ b e. let is : batch_of wait s now ≡ b = cc in subst (λ b. All (IsNode nodes) (named_nodes b)) is batch-named;
     }
@@ -134,7 +214,8 @@ module _ (nodes : List ℕ) where
   answer-named batch Overflow riders named = named
   answer-named batch (Planned plan) riders named =
       let after = after_plan batch (picks plan.chosen) in
-      All-map HasNodes after riders (All-weaker HasNodes (λ r. HasNodes (after r)) (λ r has. cond_both (is_active r.status && in_batch batch r.id) (with_status (planned_status (picks plan.chosen) r.id) r) r HasNodes (λ b. has) (λ b. has)) riders named)
+      All-map HasNodes after riders (All-weaker HasNodes (λ r. HasNodes (after r)) (λ r has. cond_both (is_active r.status && in_batch batch r.id)
+      (with_status (planned_status (picks plan.chosen) r.id) r) r HasNodes (λ b. has) (λ b. has)) riders named)
 
   close-named : (s : State) (batch : ℕ) (a : Answer) → NamesNodes nodes s → NamesNodes nodes (close_step s batch a).0
   close-named s batch a named =

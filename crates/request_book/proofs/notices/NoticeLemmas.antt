@@ -1,5 +1,32 @@
 -- The notices of a journal, one after the other.
-use Rattle.std.proofs.Common.{◌≡◌, ℕ, ◌+◌, ◌<◌, ◌≤◌, Bool, true, false, cond, List, [], ◌∷◌, ◌++◌, length, get_or, map, take, drop, Some, None, refl, sym, ap, subst, ◌∙◌, append_assoc}
+use Rattle.std.proofs.Common.{
+  ◌≡◌,
+  ℕ,
+  ◌+◌,
+  ◌<◌,
+  ◌≤◌,
+  Bool,
+  true,
+  false,
+  cond,
+  List,
+  [],
+  ◌∷◌,
+  ◌++◌,
+  length,
+  get_or,
+  map,
+  take,
+  drop,
+  Some,
+  None,
+  refl,
+  sym,
+  ap,
+  subst,
+  ◌∙◌,
+  append_assoc,
+}
 use Rattle.std.specs.Prelude.{filter, unwrap_or}
 use Rattle.std.proofs.lemmas.List.{append-nil, drop_all, at_drop_more, map-append}
 use Rattle.std.proofs.lemmas.List.Elements.{filter_more}
@@ -50,7 +77,8 @@ told-next nodes wait s next reply es i e told more all within is adds stepped h 
     let stepped_to : next ≡ (step nodes wait s e.command).0 = ap (λ p. p.0) stepped in
     rw (adds, append_assoc, stepped_to, ← notices-more nodes wait s es i e within is) h
 
-pub told-end : (nodes : List ℕ) (wait : ℕ) (s : State) (es : List Entry) (i : ℕ) (told all : List Notice) → length es ≤ i → told ++ notices_from nodes wait s (drop i es) ≡ all → told ≡ all
+pub told-end : (nodes : List ℕ) (wait : ℕ) (s : State) (es : List Entry) (i : ℕ) (told all : List Notice) → length es ≤ i →
+    told ++ notices_from nodes wait s (drop i es) ≡ all → told ≡ all
 unfolding notices_from
 told-end nodes wait s es i told all end h = sym (ap (λ xs. told ++ notices_from nodes wait s xs) (drop_all i es end) ∙ append-nil told) ∙ h
 
@@ -67,4 +95,5 @@ noted-next {X} p f xs i x first told now below read so_far more = by
     longer = subst (λ (y : X). filter p (take (i + 1) xs) ≡ filter p (take i xs) ++ cond (p y) (y ∷ []) []) (sym read) (filter_more p xs i x below)
 
     by : now ≡ first ++ map f (filter p (take (i + 1) xs))
-    by = more ∙ rw (so_far, longer, map-append f (filter p (take i xs)) (cond (p x) (x ∷ []) []), one (p x) x) (append_assoc first (map f (filter p (take i xs))) (cond (p x) (f x ∷ []) []))
+    by = more ∙ rw (so_far, longer, map-append f (filter p (take i xs)) (cond (p x) (x ∷ []) []), one (p x) x)
+        (append_assoc first (map f (filter p (take i xs))) (cond (p x) (f x ∷ []) []))

@@ -20,7 +20,8 @@ abbrev pub vehicles_agree : (List Passenger → List Passenger → Bool) → Veh
 vehicles_agree E a b = eqb a.id b.id && (eqb a.seats b.seats && (eqb a.node b.node && (eqb a.time b.time && E a.aboard.items b.aboard.items)))
 
 -- vehicles that agree in every field are equal, and the other way round
-pub vehicles_agree-Decides : (E : List Passenger → List Passenger → Bool) → ((xs ys : List Passenger) → Decides (E xs ys) (xs ≡ ys)) → (a b : Vehicle) → Decides (vehicles_agree E a b) (a ≡ b)
+pub vehicles_agree-Decides : (E : List Passenger → List Passenger → Bool) → ((xs ys : List Passenger) → Decides (E xs ys) (xs ≡ ys)) → (a b : Vehicle) →
+    Decides (vehicles_agree E a b) (a ≡ b)
 vehicles_agree-Decides E decides a b = search (rules, vehicle_of-parts, and_from, eq-eqb)
 
 -- a batch of its parts

@@ -4,7 +4,8 @@ use Rattle.route_drive.proofs.Common.{AllByRecursion, cases_Bool, length-filter_
 pub use Rattle.stop_orders.proofs.lemmas.task.DeletionLemmas.{skips, takes}
 
 -- the test of the renamed is a test of what was
-pub filter_renamed : {X Y : Type 0} (p : Y → Bool) (q : X → Bool) (g : X → Y) (P : X → Type 0) → ((x : X) → P x → p (g x) ≡ q x) → (xs : List X) → AllByRecursion P xs → filter p (map g xs) ≡ map g (filter q xs)
+pub filter_renamed : {X Y : Type 0} (p : Y → Bool) (q : X → Bool) (g : X → Y) (P : X → Type 0) → ((x : X) → P x → p (g x) ≡ q x) → (xs : List X) →
+    AllByRecursion P xs → filter p (map g xs) ≡ map g (filter q xs)
 filter_renamed p q g P same [] all = refl
 filter_renamed p q g P same (x ∷ xs) all = grind (arith, nat_tests, same x all.0, filter_renamed p q g P same xs all.1)
 
@@ -21,7 +22,8 @@ pub all_from : {X : Type 0} (P : X → Type 0) → ((x : X) → P x) → (xs : L
 all_from P each [] = tt
 all_from P each (x ∷ xs) = (each x, all_from P each xs)
 
-pub all_mapped : {X Y : Type 0} (P : X → Type 0) (Q : Y → Type 0) (g : X → Y) → ((x : X) → P x → Q (g x)) → (xs : List X) → AllByRecursion P xs → AllByRecursion Q (map g xs)
+pub all_mapped : {X Y : Type 0} (P : X → Type 0) (Q : Y → Type 0) (g : X → Y) → ((x : X) → P x → Q (g x)) → (xs : List X) → AllByRecursion P xs →
+    AllByRecursion Q (map g xs)
 all_mapped P Q g move [] all = tt
 all_mapped P Q g move (x ∷ xs) all = (move x all.0, all_mapped P Q g move xs all.1)
 
@@ -49,10 +51,13 @@ filter_filter p q le [] = refl
 filter_filter p q le (x ∷ xs) = grind (arith, nat_tests, le x, filter_filter p q le xs)
 
 -- tests of which no two hold at once, each of so many elements, take so many elements together
-pub many_apart : {X : Type 0} (p : ℕ → X → Bool) (c : ℕ) → ((i j : ℕ) (x : X) → p i x ≡ true → p j x ≡ true → i ≡ j) → (n : ℕ) (xs : List X) → ((i : ℕ) → i < n → length (filter (p i) xs) ≡ c) → n * c ≤ length xs
+pub many_apart : {X : Type 0} (p : ℕ → X → Bool) (c : ℕ) → ((i j : ℕ) (x : X) → p i x ≡ true → p j x ≡ true → i ≡ j) → (n : ℕ) (xs : List X) →
+    ((i : ℕ) → i < n → length (filter (p i) xs) ≡ c) → n * c ≤ length xs
 many_apart p c apart zero xs each = omega arith
 many_apart {X} p c apart (suc n) xs each =
     let others : List X = filter (λ x. not (p n x)) xs in
     let ih : n * c ≤ length others = many_apart p c apart n others (λ i h.
-    ap length (filter_filter (p i) (λ x. not (p n x)) (λ x e. elim (cases_Bool (p n x)) [ inl k ↦ absurd (let same : i ≡ n = apart i n x e k in omega arith) | inr k ↦ ap not k ]) xs) ∙ each i (omega arith)) in
+    ap length (filter_filter (p i) (λ x. not (p n x))
+    (λ x e. elim (cases_Bool (p n x)) [ inl k ↦ absurd (let same : i ≡ n = apart i n x e k in omega arith) | inr k ↦ ap not k ]) xs) ∙ each i (omega arith))
+    in
     omega (arith, ih, length-filter_both (p n) (λ x. not (p n x)) (λ x. refl) xs, each n (omega arith))

@@ -1,6 +1,66 @@
 -- The stops that a plan tells of a serving order: their seconds, their seats, whose they are, and what they promise.
-use Rattle.std.proofs.Common.{◌≡◌, ℕ, zero, suc, ◌+◌, ◌≤◌, Bool, true, false, List, [], ◌∷◌, ◌++◌, length, map, filter, Some, None, refl, sym, ap, ◌∙◌, subst, arith, inl, inr, slice_get, rules}
-use Rattle.route_drive.proofs.Common.{AllByRecursion, cases_eq, travel_time, Times, trip_picks, look_up, PlannedStop, BookRider, look_up-nil, Roads, index_in, Stop, Visit, place_of, latest_of, boarding_of, room_after, seconds_from, ServesFrom, AreTravelTimes, AreReached, party_at, seats_after, HasSeatsFor, is_stop_of, calls_of, true≢false, zip, flat_map, nat_tests}
+use Rattle.std.proofs.Common.{
+  ◌≡◌,
+  ℕ,
+  zero,
+  suc,
+  ◌+◌,
+  ◌≤◌,
+  Bool,
+  true,
+  false,
+  List,
+  [],
+  ◌∷◌,
+  ◌++◌,
+  length,
+  map,
+  filter,
+  Some,
+  None,
+  refl,
+  sym,
+  ap,
+  ◌∙◌,
+  subst,
+  arith,
+  inl,
+  inr,
+  slice_get,
+  rules,
+}
+use Rattle.route_drive.proofs.Common.{
+  AllByRecursion,
+  cases_eq,
+  travel_time,
+  Times,
+  trip_picks,
+  look_up,
+  PlannedStop,
+  BookRider,
+  look_up-nil,
+  Roads,
+  index_in,
+  Stop,
+  Visit,
+  place_of,
+  latest_of,
+  boarding_of,
+  room_after,
+  seconds_from,
+  ServesFrom,
+  AreTravelTimes,
+  AreReached,
+  party_at,
+  seats_after,
+  HasSeatsFor,
+  is_stop_of,
+  calls_of,
+  true≢false,
+  zip,
+  flat_map,
+  nat_tests,
+}
 use Rattle.request_book.specs.register.Closing.{Pick}
 use Rattle.stop_orders.specs.declared.task.stop.Stop.TheVariants.{Pick as PickStop}
 use Rattle.route_drive.proofs.kept.Lists.{all_weaker}
@@ -21,7 +81,8 @@ pub record IsTold (points : List ℕ) (riders : List BookRider) (vis : Stop → 
   pub boards : (second : ℕ) → (told (s, second)).pick ≡ true → boarding_of (vis s) ≡ party_at riders (told (s, second))
   pub room : (second room : ℕ) → room_after (vis s) room ≡ seats_after riders (told (s, second)) room
 
-module _ (roads : Roads) (points : List ℕ) (times : Times) (table : AreTravelTimes roads.arcs (map (index_in roads.nodes) points) times) (riders : List BookRider) (dwell : ℕ) (vis : Stop → Visit) (told : Stop × ℕ → PlannedStop) where
+module _ (roads : Roads) (points : List ℕ) (times : Times) (table : AreTravelTimes roads.arcs (map (index_in roads.nodes) points) times)
+    (riders : List BookRider) (dwell : ℕ) (vis : Stop → Visit) (told : Stop × ℕ → PlannedStop) where
   -- the stops with their seconds, as they are told
   abbrev pub told_from : ℕ → ℕ → List Stop → List PlannedStop
   told_from place free stops = map told (zip stops (seconds_from (travel_time times) dwell place free (map vis stops)))
@@ -38,16 +99,19 @@ module _ (roads : Roads) (points : List ℕ) (times : Times) (table : AreTravelT
 
   -- what holds of each stop that is told at a second in time holds of all that are told
   pub told_all : (P : Stop → Type 0) (Q : PlannedStop → Type 0) → ((s : Stop) (second : ℕ) → P s → second ≤ latest_of (vis s) → Q (told (s, second)))
-      → (stops : List Stop) (place free room : ℕ) → AllByRecursion P stops → ServesFrom (travel_time times) dwell place free room (map vis stops) → AllByRecursion Q (told_from place free stops)
+      → (stops : List Stop) (place free room : ℕ) → AllByRecursion P stops → ServesFrom (travel_time times) dwell place free room (map vis stops) →
+      AllByRecursion Q (told_from place free stops)
   told_all P Q each [] place free room all serves = tt
   told_all P Q each (s ∷ stops) place free room all serves = search (rules, (told_all P Q each stops))
 
   pub told_length : (stops : List Stop) (place free : ℕ) → length (told_from place free stops) ≡ length stops
   told_length [] place free = refl
-  told_length (s ∷ stops) place free = let rest : length (told_from (place_of (vis s)) (free + travel_time times place (place_of (vis s)) + dwell) stops) ≡ length stops = told_length stops (place_of (vis s)) (free + travel_time times place (place_of (vis s)) + dwell) in omega (arith, rest)
+  told_length (s ∷ stops) place free = let rest : length (told_from (place_of (vis s)) (free + travel_time times place (place_of (vis s)) + dwell) stops) ≡
+      length stops = told_length stops (place_of (vis s)) (free + travel_time times place (place_of (vis s)) + dwell) in omega (arith, rest)
 
   -- the calls of a rider are those of the stops that are theirs
-  pub told_calls : (x : ℕ) (test : Stop → Bool) (P : Stop → Type 0) → ((s : Stop) (second : ℕ) → P s → is_stop_of x (told (s, second)) ≡ test s) → ((s : Stop) (second : ℕ) → P s → (told (s, second)).pick ≡ is_pick s)
+  pub told_calls : (x : ℕ) (test : Stop → Bool) (P : Stop → Type 0) → ((s : Stop) (second : ℕ) → P s → is_stop_of x (told (s, second)) ≡ test s) →
+      ((s : Stop) (second : ℕ) → P s → (told (s, second)).pick ≡ is_pick s)
       → (stops : List Stop) (place free : ℕ) → AllByRecursion P stops → calls_of x (told_from place free stops) ≡ map is_pick (filter test stops)
   told_calls x test P same kind [] place free all = refl
   told_calls x test P same kind (s ∷ stops) place free all = search (rules, nat_tests, (told_calls x test P same kind stops))
@@ -57,7 +121,8 @@ abbrev pub pick_of : ℕ → PlannedStop → Pick
 pick_of vehicle stop = record { rider = stop.rider; promise = record { vehicle = vehicle; pickup = stop.second } }
 
 -- whoever has no pickup is promised none
-pub none_promised : (x vehicle : ℕ) (stops : List PlannedStop) → AllByRecursion (λ b. b ≡ false) (calls_of x stops) → look_up (λ (p : Pick). p.rider) x (trip_picks vehicle stops) ≡ None
+pub none_promised : (x vehicle : ℕ) (stops : List PlannedStop) → AllByRecursion (λ b. b ≡ false) (calls_of x stops) →
+    look_up (λ (p : Pick). p.rider) x (trip_picks vehicle stops) ≡ None
 unfolding trip_picks look_up
 none_promised x vehicle [] all = refl
 none_promised x vehicle (stop ∷ stops) all = grind (arith, nat_tests, none_promised x vehicle stops)
@@ -65,7 +130,8 @@ none_promised x vehicle (stop ∷ stops) all = grind (arith, nat_tests, none_pro
 -- whoever has one pickup is promised it
 pub record IsPickPromised (x vehicle : ℕ) (stops : List PlannedStop) : Type 0 where
   pub second : ℕ
-  pub found : look_up (λ (p : Pick). p.rider) x (trip_picks vehicle stops) ≡ Some (record { rider = x; promise = record { vehicle = vehicle; pickup = second } })
+  pub found : look_up (λ (p : Pick). p.rider) x (trip_picks vehicle stops) ≡ Some (record
+      { rider = x; promise = record { vehicle = vehicle; pickup = second } })
   pub at : AllByRecursion (λ (stop : PlannedStop). stop.rider ≡ x → stop.pick ≡ true → stop.second ≡ second) stops
 
 pub one_promised : (x vehicle : ℕ) (stops : List PlannedStop) → calls_of x stops ≡ true ∷ false ∷ [] → IsPickPromised x vehicle stops
@@ -105,15 +171,18 @@ module _ {X : Type 0} (key : X → ℕ) (k : ℕ) where
   look_up-before [] ys none = none
   look_up-before (x ∷ xs) ys none = grind (arith, nat_tests, look_up-before xs ys none)
 
-  pub none_among : {T : Type 0} (f : T → List X) (ts : List T) → ((j : ℕ) (u : T) → slice_get ts j ≡ Some u → look_up key k (f u) ≡ None) → look_up key k (flat_map f ts) ≡ None
+  pub none_among : {T : Type 0} (f : T → List X) (ts : List T) → ((j : ℕ) (u : T) → slice_get ts j ≡ Some u → look_up key k (f u) ≡ None) →
+      look_up key k (flat_map f ts) ≡ None
   none_among f [] none = look_up-nil key k
   none_among f (t ∷ ts) none = look_up-after (f t) (flat_map f ts) (none 0 t refl) ∙ none_among f ts (λ j u e. none (suc j) u e)
 
-  pub found_among : {T : Type 0} (f : T → List X) (ts : List T) (i : ℕ) (t : T) → slice_get ts i ≡ Some t → ((j : ℕ) (u : T) → slice_get ts j ≡ Some u → (j ≡ i → ⊥) → look_up key k (f u) ≡ None)
+  pub found_among : {T : Type 0} (f : T → List X) (ts : List T) (i : ℕ) (t : T) → slice_get ts i ≡ Some t →
+      ((j : ℕ) (u : T) → slice_get ts j ≡ Some u → (j ≡ i → ⊥) → look_up key k (f u) ≡ None)
       → look_up key k (flat_map f ts) ≡ look_up key k (f t)
   found_among f [] i t at none = absurd cc
   found_among f (u ∷ ts) zero t at none =
       let is : u ≡ t = cc in
       look_up-before (f u) (flat_map f ts) (none_among f ts (λ j w e. none (suc j) w e (λ h. absurd (omega arith)))) ∙ ap (λ t. look_up key k (f t)) is
   found_among f (u ∷ ts) (suc i) t at none =
-      look_up-after (f u) (flat_map f ts) (none 0 u refl (λ h. absurd (omega arith))) ∙ found_among f ts i t at (λ j w e ne. none (suc j) w e (λ h. ne (omega arith)))
+      look_up-after (f u) (flat_map f ts) (none 0 u refl (λ h. absurd (omega arith))) ∙ found_among f ts i t at
+      (λ j w e ne. none (suc j) w e (λ h. ne (omega arith)))

@@ -1,6 +1,50 @@
 -- Shortest walks: their seconds are one number, and what is left of one is one.
-use Rattle.std.proofs.Common.{◌≡◌, ℕ, zero, suc, ◌+◌, ◌<◌, ◌≤◌, true, false, eqb, List, [], ◌∷◌, length, get_or, Contains, nat_eq, refl, sym, ◌∙◌, arith, inl, inr, rules}
-use Rattle.route_drive.proofs.Common.{IsDistinct, false≢true, All-from_recursion, Contains-get_or, passes_at_first, never, Arc, IsWalk, walk_seconds, IsLeastTime, IsTimeBetween, index_in, has_node, eqb-true, eq-eqb, IsWalk-append, walk_seconds-append, nat_tests}
+use Rattle.std.proofs.Common.{
+  ◌≡◌,
+  ℕ,
+  zero,
+  suc,
+  ◌+◌,
+  ◌<◌,
+  ◌≤◌,
+  true,
+  false,
+  eqb,
+  List,
+  [],
+  ◌∷◌,
+  length,
+  get_or,
+  Contains,
+  nat_eq,
+  refl,
+  sym,
+  ◌∙◌,
+  arith,
+  inl,
+  inr,
+  rules,
+}
+use Rattle.route_drive.proofs.Common.{
+  IsDistinct,
+  false≢true,
+  All-from_recursion,
+  Contains-get_or,
+  passes_at_first,
+  never,
+  Arc,
+  IsWalk,
+  walk_seconds,
+  IsLeastTime,
+  IsTimeBetween,
+  index_in,
+  has_node,
+  eqb-true,
+  eq-eqb,
+  IsWalk-append,
+  walk_seconds-append,
+  nat_tests,
+}
 
 pub between_unique : (arcs : List Arc) (a b s t : ℕ) → IsTimeBetween arcs a b s → IsTimeBetween arcs a b t → s ≡ t
 between_unique arcs a b s t (inl one) (inl other) = omega (arith, one.least other.walk other.walks, other.least one.walk one.walks, one.takes, other.takes)
@@ -34,7 +78,13 @@ pub index_at : (nodes : List ℕ) (k : ℕ) → IsDistinct nat_eq nodes → k < 
 unfolding IsDistinct
 index_at [] k apart h = absurd (omega arith)
 index_at (x ∷ xs) zero apart h = rw (eq-eqb x x refl) refl
-index_at (x ∷ xs) (suc k) apart h = grind (arith, nat_tests, index_at xs k apart.1 (omega arith), All-from_recursion (λ y. nat_eq x y ≡ false) xs apart.0 k 0 (omega arith))
+index_at (x ∷ xs) (suc k) apart h = grind (
+  arith,
+  nat_tests,
+  index_at xs k apart.1 (omega arith),
+  All-from_recursion (λ y. nat_eq x y ≡ false) xs apart.0 k 0
+      (omega arith),
+)
 
 -- a node with an index is the name at it
 pub name_at : (nodes : List ℕ) (node : ℕ) → index_in nodes node < length nodes → get_or nodes (index_in nodes node) 0 ≡ node

@@ -1,6 +1,22 @@
 -- Degrees, counted node by node.
 use Rattle.std.proofs.Common.{rules, ◌≡◌, ℕ, ◌+◌, ◌<◌, ◌≤◌, ◌&&◌, Bool, true, false, cond, eqb, ltb, List, [], ◌∷◌, length, map, count_by, All, refl, arith}
-use Rattle.travel_times.proofs.Common.{nat_tests, All-head, All-tail, sum_by-cons, length-filter, count_by-le-length, Arc, Hop, IsArcAmong, hop_of, leaving, degree, reaching_before, lt-ltb, le-ltb}
+use Rattle.travel_times.proofs.Common.{
+  nat_tests,
+  All-head,
+  All-tail,
+  sum_by-cons,
+  length-filter,
+  count_by-le-length,
+  Arc,
+  Hop,
+  IsArcAmong,
+  hop_of,
+  leaving,
+  degree,
+  reaching_before,
+  lt-ltb,
+  le-ltb,
+}
 
 -- 1 where a test passes
 abbrev one_if : Bool → ℕ
@@ -18,7 +34,8 @@ step true f k = one_more f k
 step false f k = elim (eqb f k) as (λ b. 0 ≡ 0 + cond b 0 0) [ true ↦ refl | false ↦ refl ]
 
 -- the hops of an arc, where it is kept
-kept : (b : Bool) (node : ℕ) (arc : Arc) (rest : List Arc) → count_by (λ (hop : Hop). eqb hop.to node) (map hop_of (cond b (arc ∷ rest) rest)) ≡ cond b (cond (eqb arc.to node) 1 0) 0 + count_by (λ (hop : Hop). eqb hop.to node) (map hop_of rest)
+kept : (b : Bool) (node : ℕ) (arc : Arc) (rest : List Arc) → count_by (λ (hop : Hop). eqb hop.to node) (map hop_of (cond b (arc ∷ rest) rest)) ≡ cond b
+    (cond (eqb arc.to node) 1 0) 0 + count_by (λ (hop : Hop). eqb hop.to node) (map hop_of rest)
 kept true node arc rest = sum_by-cons (λ (hop : Hop). cond (eqb hop.to node) 1 0) (hop_of arc) (map hop_of rest)
 kept false node arc rest = omega arith
 
@@ -26,7 +43,8 @@ pub reaching_none : (arcs : List Arc) (node : ℕ) → reaching_before arcs 0 no
 reaching_none [] node = refl
 reaching_none (arc ∷ rest) node = search (rules, sum_by-cons, none_below, (reaching_none rest node))
 
-pub reaching_more : (arcs : List Arc) (k node : ℕ) → reaching_before arcs (k + 1) node ≡ reaching_before arcs k node + count_by (λ (hop : Hop). eqb hop.to node) (map hop_of (leaving k arcs))
+pub reaching_more : (arcs : List Arc) (k node : ℕ) → reaching_before arcs (k + 1) node ≡ reaching_before arcs k node + count_by (λ (hop : Hop). eqb hop.to node)
+    (map hop_of (leaving k arcs))
 reaching_more [] k node = refl
 reaching_more (arc ∷ rest) k node =
     let more = sum_by-cons (λ (a : Arc). cond (eqb a.to node && ltb a.from (k + 1)) 1 0) arc rest in
@@ -39,7 +57,8 @@ reaching_all (arc ∷ rest) n node among =
     let within : arc.from < n = (All-head (IsArcAmong n) arc rest among).0 in
     let first = sum_by-cons (λ (a : Arc). cond (eqb a.to node && ltb a.from n) 1 0) arc rest in
     let second = sum_by-cons (λ (a : Arc). cond (eqb a.to node) 1 0) arc rest in
-    let here : one_if (eqb arc.to node && ltb arc.from n) ≡ one_if (eqb arc.to node) = rw (lt-ltb arc.from n within) (elim (eqb arc.to node) as (λ b. one_if (b && true) ≡ one_if b) [ true ↦ refl | false ↦ refl ]) in
+    let here : one_if (eqb arc.to node && ltb arc.from n) ≡ one_if (eqb arc.to node) = rw (lt-ltb arc.from n within)
+    (elim (eqb arc.to node) as (λ b. one_if (b && true) ≡ one_if b) [ true ↦ refl | false ↦ refl ]) in
     omega (arith, reaching_all rest n node (All-tail (IsArcAmong n) arc rest among), first, second, here)
 
 pub leaving_few : (arcs : List Arc) (node : ℕ) → length (leaving node arcs) ≤ length arcs

@@ -1,6 +1,22 @@
 -- A pruned search from a node finds exactly the nodes that the node is a hub of.
 use Rattle.std.proofs.Common.{rules, ◌≡◌, ℕ, suc, ◌+◌, ◌<◌, ◌≤◌, ◌⊎◌, List, [], ◌∷◌, get_or, slice_index, All, Contains, sym, ◌∙◌, inl, inr, arith}
-use Rattle.travel_times.proofs.Common.{get_or_default, All-contains, sum_by-cons, never, longest, Arc, IsWalk, walk_seconds, IsArcAmong, Hub, IsRankedHub, AreLabelsBelow, IsToldAt, IsPruned, IsSpread}
+use Rattle.travel_times.proofs.Common.{
+  get_or_default,
+  All-contains,
+  sum_by-cons,
+  never,
+  longest,
+  Arc,
+  IsWalk,
+  walk_seconds,
+  IsArcAmong,
+  Hub,
+  IsRankedHub,
+  AreLabelsBelow,
+  IsToldAt,
+  IsPruned,
+  IsSpread,
+}
 use Rattle.travel_times.proofs.lemmas.search.WalkLemmas.{goal_within}
 use Rattle.travel_times.proofs.labels.Times.{AreTimes, metric_of, start_within, time_is, time_least, least_is}
 use Rattle.travel_times.proofs.labels.Cover.{IsClear, cover}
@@ -8,7 +24,8 @@ use Rattle.travel_times.proofs.labels.Cover.{IsClear, cover}
 -- the label that the start has of its own: hubs that it reaches, with the seconds to them
 pub record IsOwnLabel (n : ℕ) (time : ℕ → ℕ → ℕ) (rank : List ℕ) (h : ℕ) (own : List Hub) : Type 0 where
   pub sound : (hub : Hub) → Contains own hub → (hub.node < n) × (hub.seconds ≡ time h hub.node)
-  pub complete : (w : ℕ) → w < n → slice_index rank w < slice_index rank h → time h w ≤ longest → IsClear n time (slice_index rank) h w (slice_index rank w) → Contains own (record { node = w; seconds = time h w })
+  pub complete : (w : ℕ) → w < n → slice_index rank w < slice_index rank h → time h w ≤ longest → IsClear n time (slice_index rank) h w (slice_index rank w) →
+      Contains own (record { node = w; seconds = time h w })
 
 -- a node of lower rank joins two nodes within so many seconds
 abbrev pub IsJoined : ℕ → (ℕ → ℕ → ℕ) → List ℕ → ℕ → ℕ → ℕ → Type 0
@@ -16,7 +33,8 @@ IsJoined n time rank h b most = (w : ℕ) × (w < n) × (slice_index rank w < sl
 
 module _ {arcs : List Arc} {n : ℕ} {time : ℕ → ℕ → ℕ} {rank : List ℕ} (among : All (IsArcAmong n) arcs) (few : n ≤ 100000) (are : AreTimes arcs n time) where
   -- a hub by travel times
-  pub hub_is : (b h s : ℕ) → b < n → IsRankedHub arcs rank b h s → (h < n) × (s ≡ time h b) × (time h b ≤ longest) × IsClear n time (slice_index rank) h b (slice_index rank h)
+  pub hub_is : (b h s : ℕ) → b < n → IsRankedHub arcs rank b h s → (h < n) × (s ≡ time h b) × (time h b ≤ longest) × IsClear n time (slice_index rank) h b
+      (slice_index rank h)
   hub_is b h s hb hub =
       let hh : h < n = start_within arcs hub.time.walk n h b among hub.time.walks hb in
       let is = time_is among few are h b s hh hb hub.time in (
@@ -24,10 +42,12 @@ module _ {arcs : List Arc} {n : ℕ} {time : ℕ → ℕ → ℕ} {rank : List �
         is.0,
         is.1,
         λ w hw low e.
-            hub.first w (time h w) (time w b) low (least_is among few are h w hh hw (omega (arith, e, is.1))) (least_is among few are w b hw hb (omega (arith, e, is.1))) (e ∙ sym is.0),
+            hub.first w (time h w) (time w b) low (least_is among few are h w hh hw (omega (arith, e, is.1)))
+            (least_is among few are w b hw hb (omega (arith, e, is.1))) (e ∙ sym is.0),
       )
 
-  pub hub_from : (b h : ℕ) → b < n → h < n → time h b ≤ longest → IsClear n time (slice_index rank) h b (slice_index rank h) → IsRankedHub arcs rank b h (time h b)
+  pub hub_from : (b h : ℕ) → b < n → h < n → time h b ≤ longest → IsClear n time (slice_index rank) h b (slice_index rank h) →
+      IsRankedHub arcs rank b h (time h b)
   hub_from b h hb hh finite clear = record {
     time = least_is among few are h b hh hb finite;
     first = λ w before after low from to e.
@@ -35,7 +55,8 @@ module _ {arcs : List Arc} {n : ℕ} {time : ℕ → ℕ → ℕ} {rank : List �
         clear w hw low (omega (arith, e, (time_is among few are h w before hh hw from).0, (time_is among few are w b after hw hb to).0));
   }
 
-  module _ {h : ℕ} {labels : List (List Hub)} {own : List Hub} {via : List ℕ} (hh : h < n) (below : AreLabelsBelow arcs rank n (slice_index rank h) labels) (of_start : IsOwnLabel n time rank h own) (spread : IsSpread n own via) where
+  module _ {h : ℕ} {labels : List (List Hub)} {own : List Hub} {via : List ℕ} (hh : h < n) (below : AreLabelsBelow arcs rank n (slice_index rank h) labels)
+      (of_start : IsOwnLabel n time rank h own) (spread : IsSpread n own via) where
     -- what is told is so
     pub told_sound : (b most : ℕ) → b < n → most < never → IsToldAt labels via b most → IsJoined n time rank h b most
     told_sound b most hb finite (k, inside, sum) =
@@ -49,7 +70,8 @@ module _ {arcs : List Arc} {n : ℕ} {time : ℕ → ℕ → ℕ} {rank : List �
         ]
 
     -- what is so is told
-    pub told_complete : (w b most : ℕ) → w < n → b < n → slice_index rank w < slice_index rank h → time h w ≤ longest → time w b ≤ longest → time h w + time w b ≤ most → IsToldAt labels via b most
+    pub told_complete : (w b most : ℕ) → w < n → b < n → slice_index rank w < slice_index rank h → time h w ≤ longest → time w b ≤ longest →
+        time h w + time w b ≤ most → IsToldAt labels via b most
     told_complete w b most hw hb low from to less =
         let found = cover n time (slice_index rank) (metric_of among few are) (suc (slice_index rank w)) h b w hh hb hw (omega arith) from to in
         let v : ℕ = found.0 in
@@ -69,11 +91,23 @@ module _ {arcs : List Arc} {n : ℕ} {time : ℕ → ℕ → ℕ} {rank : List �
           elim (pruned.relaxed x hx (omega arith)) [
             | inl told ↦
                 let joined = told_sound x (slice_index seconds x) hx (omega arith) told in
-                inl (joined.0, joined.1, joined.2, omega (arith, joined.3, (metric_of among few are).triangle joined.0 x b joined.1 hx hb, (time_least among few are x b (arc ∷ rest) hx hb walks).0))
+                inl (
+                  joined.0,
+                  joined.1,
+                  joined.2,
+                  omega (
+                    arith,
+                    joined.3,
+                    (metric_of among few are).triangle joined.0 x b joined.1 hx hb,
+                    (time_least among few are x b (arc ∷ rest) hx hb walks).0,
+                  ),
+                )
             | inr relaxed ↦
-                let next : slice_index seconds arc.to ≤ p + arc.seconds = elim (relaxed arc walks.0 walks.1) [ inl h ↦ omega (arith, h) | inr h ↦ absurd (omega (arith, h, more)) ] in
+                let next : slice_index seconds arc.to ≤ p + arc.seconds = elim (relaxed arc walks.0 walks.1)
+                [ inl h ↦ omega (arith, h) | inr h ↦ absurd (omega (arith, h, more)) ] in
                 let same : p + arc.seconds + walk_seconds rest ≡ p + walk_seconds (arc ∷ rest) = omega (arith, more) in
-                rw same at (reaches rest arc.to b (p + arc.seconds) ((All-contains (IsArcAmong n) arcs arc among walks.0).1) hb walks.2 next (omega (arith, more)))
+                rw same at (reaches rest arc.to b (p + arc.seconds) ((All-contains (IsArcAmong n) arcs arc among walks.0).1) hb walks.2 next
+                (omega (arith, more)))
           ]
 
       -- the same for the travel time
@@ -84,7 +118,8 @@ module _ {arcs : List Arc} {n : ℕ} {time : ℕ → ℕ → ℕ} {rank : List �
           rw same at (reaches least.walk h b 0 hh hb least.walks (omega (arith, pruned.start_zero)) (omega (arith, least.takes)))
 
       -- no number is below the travel time
-      no_earlier : (b : ℕ) → b < n → slice_index seconds b < never → (time h b ≤ slice_index seconds b) × (time h b ≤ longest) × (slice_index seconds b ≤ longest)
+      no_earlier : (b : ℕ) → b < n → slice_index seconds b < never → (time h b ≤ slice_index seconds b) × (time h b ≤ longest) ×
+          (slice_index seconds b ≤ longest)
       no_earlier b hb finite = search (rules, time_least)
 
       -- a node that the start is a hub of is found, and not told of before
@@ -93,15 +128,28 @@ module _ {arcs : List Arc} {n : ℕ} {time : ℕ → ℕ → ℕ} {rank : List �
           let is = hub_is b h t hb hub in
           let alone : (most : ℕ) → most ≤ t → IsJoined n time rank h b most → ⊥ = λ most le joined.
           is.3 joined.0 joined.1 joined.2 (omega (arith, joined.3, is.1, (metric_of among few are).triangle h joined.0 b hh joined.1 hb)) in
-          let le : slice_index seconds b ≤ time h b = elim (in_time b hb is.2) [ inl joined ↦ absurd (alone (time h b) (omega (arith, is.1)) joined) | inr l ↦ l ] in
-          (omega (arith, is.1, is.2, (no_earlier b hb (omega (arith, is.2))).0), omega (arith, is.1, is.2), λ told. alone t (omega arith) (told_sound b t hb (omega (arith, is.1, is.2)) told))
+          let le : slice_index seconds b ≤ time h b = elim (in_time b hb is.2) [
+            | inl joined ↦ absurd (alone (time h b) (omega (arith, is.1)) joined)
+            | inr l ↦ l
+          ] in (
+            omega (arith, is.1, is.2, (no_earlier b hb (omega (arith, is.2))).0),
+            omega (arith, is.1, is.2),
+            λ told. alone t (omega arith)
+                (told_sound b t hb (omega (arith, is.1, is.2)) told),
+          )
 
       -- a node that is found, and not told of before, has the start as a hub
-      pub found_hub : (b : ℕ) → b < n → slice_index seconds b < never → (IsToldAt labels via b (slice_index seconds b) → ⊥) → IsRankedHub arcs rank b h (slice_index seconds b)
+      pub found_hub : (b : ℕ) → b < n → slice_index seconds b < never → (IsToldAt labels via b (slice_index seconds b) → ⊥) →
+          IsRankedHub arcs rank b h (slice_index seconds b)
       found_hub b hb finite new =
           let bounds = no_earlier b hb finite in
           let untold : IsJoined n time rank h b (slice_index seconds b) → ⊥ = λ joined.
-          new (told_complete joined.0 b (slice_index seconds b) joined.1 hb joined.2 (omega (arith, joined.3, bounds.2)) (omega (arith, joined.3, bounds.2)) joined.3) in
-          let le : slice_index seconds b ≤ time h b = elim (in_time b hb bounds.1) [ inl joined ↦ absurd (untold (joined.0, joined.1, joined.2, omega (arith, joined.3, bounds.0))) | inr l ↦ l ] in
+          new (told_complete joined.0 b (slice_index seconds b) joined.1 hb joined.2 (omega (arith, joined.3, bounds.2)) (omega (arith, joined.3, bounds.2))
+          joined.3) in
+          let le : slice_index seconds b ≤ time h b = elim (in_time b hb bounds.1) [
+            | inl joined ↦ absurd
+                (untold (joined.0, joined.1, joined.2, omega (arith, joined.3, bounds.0)))
+            | inr l ↦ l
+          ] in
           let same : time h b ≡ slice_index seconds b = omega (arith, bounds.0) in
           rw same at (hub_from b h hb hh bounds.1 (λ w hw low e. untold (w, hw, low, omega arith)))

@@ -1,6 +1,58 @@
 -- Hops of a network's arcs, ahead and back.
-use Rattle.std.proofs.Common.{◌≡◌, ◌≢◌, ℕ, ◌+◌, ◌<◌, ◌≤◌, ◌⊎◌, List, [], ◌∷◌, ◌++◌, length, get_or, set, map, replicate, All, Contains, sym, ap, ◌∙◌, subst, inl, inr, arith}
-use Rattle.travel_times.proofs.Common.{cases_eq, cases_lt, get_or_default, get_or_past, get_or-replicate, length-replicate, All-contains, Contains-get_or, Contains-append_left, Contains-push, Contains-push_cases, Arc, Hop, IsArcAmong, hop_of, leaving, turned, arc_from, AreHopsOf, AreNodeHops, TurnsHops, AreTurnedBefore, length-set, get_or-set_same, get_or-set_other}
+use Rattle.std.proofs.Common.{
+  ◌≡◌,
+  ◌≢◌,
+  ℕ,
+  ◌+◌,
+  ◌<◌,
+  ◌≤◌,
+  ◌⊎◌,
+  List,
+  [],
+  ◌∷◌,
+  ◌++◌,
+  length,
+  get_or,
+  set,
+  map,
+  replicate,
+  All,
+  Contains,
+  sym,
+  ap,
+  ◌∙◌,
+  subst,
+  inl,
+  inr,
+  arith,
+}
+use Rattle.travel_times.proofs.Common.{
+  cases_eq,
+  cases_lt,
+  get_or_default,
+  get_or_past,
+  get_or-replicate,
+  length-replicate,
+  All-contains,
+  Contains-get_or,
+  Contains-append_left,
+  Contains-push,
+  Contains-push_cases,
+  Arc,
+  Hop,
+  IsArcAmong,
+  hop_of,
+  leaving,
+  turned,
+  arc_from,
+  AreHopsOf,
+  AreNodeHops,
+  TurnsHops,
+  AreTurnedBefore,
+  length-set,
+  get_or-set_same,
+  get_or-set_other,
+}
 use Rattle.travel_times.proofs.lemmas.search.SearchLemmas.{arc_of_hop, hop_of_arc, hops_among}
 use Rattle.travel_times.proofs.labels.Turned.{turn_there, turn_back}
 
@@ -16,7 +68,8 @@ none_of n node = elim (cases_lt node n) [
 
 -- an arc is known by its parts
 same_arc : (arc : Arc) (node : ℕ) (hop : Hop) → arc.from ≡ node → hop_of arc ≡ hop → arc ≡ arc_from node hop
-same_arc arc node hop from is = ap (λ (f : ℕ). let a : Arc = record { from = f; to = arc.to; seconds = arc.seconds } in a) from ∙ ap (λ (h : Hop). arc_from node h) is
+same_arc arc node hop from is = ap (λ (f : ℕ). let a : Arc = record { from = f; to = arc.to; seconds = arc.seconds } in a) from ∙
+    ap (λ (h : Hop). arc_from node h) is
 
 pub leaving_hops : (arcs : List Arc) (node : ℕ) (hops : List Hop) → hops ≡ map hop_of (leaving node arcs) → AreHopsOf arcs node hops
 leaving_hops arcs node hops are = rw are (record {
@@ -31,7 +84,8 @@ pub few_nodes : (arcs : List Arc) (n node : ℕ) → All (IsArcAmong n) arcs →
 few_nodes arcs n node among few k d h = omega (arith, few, (hops_among arcs n node among k d h).0)
 
 -- one hop more is turned
-pub turn_more : (node : ℕ) (leaving : List Hop) (i : ℕ) (before mid : List (List Hop)) (to : ℕ) (old : List Hop) (hop : Hop) → i < length leaving → to ≡ (get_or leaving i none).to → hop ≡ record { to = node; seconds = (get_or leaving i none).seconds } → to < length mid → old ≡ get_or mid to old
+pub turn_more : (node : ℕ) (leaving : List Hop) (i : ℕ) (before mid : List (List Hop)) (to : ℕ) (old : List Hop) (hop : Hop) → i < length leaving →
+    to ≡ (get_or leaving i none).to → hop ≡ record { to = node; seconds = (get_or leaving i none).seconds } → to < length mid → old ≡ get_or mid to old
     → TurnsHops node leaving i before mid → TurnsHops node leaving (i + 1) before (set mid to (old ++ hop ∷ []))
 turn_more node leaving i before mid to old hop inside is_to is_hop within read so_far =
     let new : List Hop = old ++ hop ∷ [] in
@@ -50,7 +104,8 @@ turn_more node leaving i before mid to old hop inside is_to is_hop within read s
           | inr new_is ↦
               let m : Hop = record { to = end; seconds = h.seconds } in
               let seconds : (get_or leaving i none).seconds ≡ h.seconds = ap (λ (x : Hop). x.seconds) (sym is_hop ∙ new_is) in
-              let same : get_or leaving i none ≡ m = ap (λ (t : ℕ). let r : Hop = record { to = t; seconds = (get_or leaving i none).seconds } in r) (sym is_to ∙ sym e) ∙ ap (λ (s : ℕ). let r : Hop = record { to = end; seconds = s } in r) seconds in
+              let same : get_or leaving i none ≡ m = ap (λ (t : ℕ). let r : Hop = record { to = t; seconds = (get_or leaving i none).seconds } in r)
+              (sym is_to ∙ sym e) ∙ ap (λ (s : ℕ). let r : Hop = record { to = end; seconds = s } in r) seconds in
               inr (ap (λ (x : Hop). x.to) (sym new_is ∙ is_hop), (i, omega arith, inside, get_or_default leaving i m none inside ∙ same))
         ]
         | inr ne ↦ from_before end h (so_far.from end h (rw (other end ne) at has))
@@ -65,12 +120,15 @@ turn_more node leaving i before mid to old hop inside is_to is_hop within read s
       ];
     }
   where
-    from_before : (end : ℕ) (h : Hop) → Contains (get_or before end []) h ⊎ ((h.to ≡ node) × ((k : ℕ) × (k < i) × (k < length leaving) × (get_or leaving k (record { to = end; seconds = h.seconds }) ≡ record { to = end; seconds = h.seconds })))
-        → Contains (get_or before end []) h ⊎ ((h.to ≡ node) × ((k : ℕ) × (k < i + 1) × (k < length leaving) × (get_or leaving k (record { to = end; seconds = h.seconds }) ≡ record { to = end; seconds = h.seconds })))
+    from_before : (end : ℕ) (h : Hop) → Contains (get_or before end []) h ⊎ ((h.to ≡ node) ×
+        ((k : ℕ) × (k < i) × (k < length leaving) × (get_or leaving k (record { to = end; seconds = h.seconds }) ≡ record { to = end; seconds = h.seconds })))
+        → Contains (get_or before end []) h ⊎ ((h.to ≡ node) × ((k : ℕ) × (k < i + 1) × (k < length leaving) ×
+        (get_or leaving k (record { to = end; seconds = h.seconds }) ≡ record { to = end; seconds = h.seconds })))
     from_before end h either = elim either [ inl has ↦ inl has | inr new ↦ inr (new.0, (new.1.0, omega (arith, new.1.1), new.1.2, new.1.3)) ]
 
 -- the hops of one node more are turned
-pub turned_more : (arcs : List Arc) (n node : ℕ) (hops before after : List (List Hop)) (ahead : List Hop) → ahead ≡ map hop_of (leaving node arcs) → AreTurnedBefore arcs n node before → TurnsHops node ahead (length ahead) before after → AreTurnedBefore arcs n (node + 1) after
+pub turned_more : (arcs : List Arc) (n node : ℕ) (hops before after : List (List Hop)) (ahead : List Hop) → ahead ≡ map hop_of (leaving node arcs) →
+    AreTurnedBefore arcs n node before → TurnsHops node ahead (length ahead) before after → AreTurnedBefore arcs n (node + 1) after
 turned_more arcs n node hops before after ahead are so_far turns = record {
   each = turns.each ∙ so_far.each;
   among = λ end hop lt has. elim (turns.from end hop has) [
@@ -92,11 +150,13 @@ turned_more arcs n node hops before after ahead are so_far turns = record {
 }
 
 -- all hops are turned
-pub all_turned : (arcs : List Arc) (n : ℕ) (hops : List (List Hop)) → All (IsArcAmong n) arcs → AreTurnedBefore arcs n n hops → AreNodeHops (map turned arcs) n hops
+pub all_turned : (arcs : List Arc) (n : ℕ) (hops : List (List Hop)) → All (IsArcAmong n) arcs → AreTurnedBefore arcs n n hops →
+    AreNodeHops (map turned arcs) n hops
 all_turned arcs n hops among done = record {
   each = done.each;
   placed = λ node lt. record {
-    among = λ k d h. turn_there arcs (record { from = (get_or (get_or hops node []) k d).to; to = node; seconds = (get_or (get_or hops node []) k d).seconds }) (done.among node (get_or (get_or hops node []) k d) lt (Contains-get_or (get_or hops node []) k d h));
+    among = λ k d h. turn_there arcs (record { from = (get_or (get_or hops node []) k d).to; to = node; seconds = (get_or (get_or hops node []) k d).seconds })
+        (done.among node (get_or (get_or hops node []) k d) lt (Contains-get_or (get_or hops node []) k d h));
     all = λ arc has from.
         let back = turn_back arcs arc has in
         let to : arc.to < n = (All-contains (IsArcAmong n) arcs (turned arc) among back).0 in

@@ -5,7 +5,13 @@ use Rattle.travel_times.proofs.Common.{count_by-le-length, Arc, degree, IsOfLowe
 
 -- no degree is above twice the number of arcs
 pub degree_most : (arcs : List Arc) (node : ℕ) → length arcs ≤ 400000 → degree arcs node ≤ 800000
-degree_most arcs node few = omega (arith, few, count_by-le-length (λ (arc : Arc). eqb arc.from node) arcs, count_by-le-length (λ (arc : Arc). eqb arc.to node) arcs)
+degree_most arcs node few = omega (
+  arith,
+  few,
+  count_by-le-length (λ (arc : Arc). eqb arc.from node) arcs,
+  count_by-le-length (λ (arc : Arc). eqb arc.to node)
+      arcs,
+)
 
 -- rank and key agree
 key_rises : (x y a b : ℕ) → y < x → x ≤ 1000000 → a < 100000 → (1000000 - x) * 100000 + a < (1000000 - y) * 100000 + b

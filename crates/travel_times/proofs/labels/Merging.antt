@@ -18,20 +18,24 @@ pub record IsMerging (forward backward : List Hub) (i j best : ℕ) : Type 0 whe
       → best ≤ (get_or forward x no_hub).seconds + (get_or backward y no_hub).seconds
 
 -- a later hub is of no lower rank
-no_lower : {rank : List ℕ} {label : List Hub} → IsRising rank label → (i x : ℕ) → x < length label → i ≤ x → slice_index rank (get_or label i no_hub).node ≤ slice_index rank (get_or label x no_hub).node
+no_lower : {rank : List ℕ} {label : List Hub} → IsRising rank label → (i x : ℕ) → x < length label → i ≤ x →
+    slice_index rank (get_or label i no_hub).node ≤ slice_index rank (get_or label x no_hub).node
 no_lower {rank} {label} rises i x within le = grind (arith, nat_tests)
 
 -- one of two was passed before, or the first is at the place that is passed now
 passed_or_here : (x y i j : ℕ) → (x < i + 1) ⊎ (y < j) → ((x < i) ⊎ (y < j)) ⊎ ((i ≡ x) × (j ≤ y))
 passed_or_here x y i j either = grind arith
 
-module _ {rank : List ℕ} {forward backward : List Hub} (ahead : IsRising rank forward) (back : IsRising rank backward) {i j best : ℕ} (so_far : IsMerging forward backward i j best) (hi : i < length forward) (hj : j < length backward) where
+module _ {rank : List ℕ} {forward backward : List Hub} (ahead : IsRising rank forward) (back : IsRising rank backward) {i j best : ℕ}
+    (so_far : IsMerging forward backward i j best) (hi : i < length forward) (hj : j < length backward) where
   -- nodes of equal hubs have one rank
-  same_rank : (x y : ℕ) → (get_or forward x no_hub).node ≡ (get_or backward y no_hub).node → slice_index rank (get_or forward x no_hub).node ≡ slice_index rank (get_or backward y no_hub).node
+  same_rank : (x y : ℕ) → (get_or forward x no_hub).node ≡ (get_or backward y no_hub).node →
+      slice_index rank (get_or forward x no_hub).node ≡ slice_index rank (get_or backward y no_hub).node
   same_rank x y e = ap (slice_index rank) e
 
   -- the hub ahead has the lower rank
-  pub merge_ahead : slice_index rank (get_or forward i no_hub).node < slice_index rank (get_or backward j no_hub).node → IsMerging forward backward (i + 1) j best
+  pub merge_ahead : slice_index rank (get_or forward i no_hub).node < slice_index rank (get_or backward j no_hub).node →
+      IsMerging forward backward (i + 1) j best
   merge_ahead less = record {
     i_within = omega arith;
     j_within = so_far.j_within;
@@ -46,7 +50,8 @@ module _ {rank : List ℕ} {forward backward : List Hub} (ahead : IsRising rank 
   }
 
   -- the hub behind has the lower rank
-  pub merge_back : slice_index rank (get_or backward j no_hub).node < slice_index rank (get_or forward i no_hub).node → IsMerging forward backward i (j + 1) best
+  pub merge_back : slice_index rank (get_or backward j no_hub).node < slice_index rank (get_or forward i no_hub).node →
+      IsMerging forward backward i (j + 1) best
   merge_back less = record {
     i_within = so_far.i_within;
     j_within = omega arith;
@@ -61,10 +66,13 @@ module _ {rank : List ℕ} {forward backward : List Hub} (ahead : IsRising rank 
   }
 
   -- it is one hub of both
-  pub merge_both : (least : ℕ) → ((a b : ℕ) → a < length rank → b < length rank → slice_index rank a ≡ slice_index rank b → a ≡ b) → slice_index rank (get_or backward j no_hub).node ≤ slice_index rank (get_or forward i no_hub).node → slice_index rank (get_or forward i no_hub).node ≤ slice_index rank (get_or backward j no_hub).node
+  pub merge_both : (least : ℕ) → ((a b : ℕ) → a < length rank → b < length rank → slice_index rank a ≡ slice_index rank b → a ≡ b) →
+      slice_index rank (get_or backward j no_hub).node ≤ slice_index rank (get_or forward i no_hub).node →
+      slice_index rank (get_or forward i no_hub).node ≤ slice_index rank (get_or backward j no_hub).node
       → least ≡ min best ((get_or forward i no_hub).seconds + (get_or backward j no_hub).seconds) → IsMerging forward backward (i + 1) (j + 1) least
   merge_both least apart le ge is_least =
-      let node : (get_or forward i no_hub).node ≡ (get_or backward j no_hub).node = apart (get_or forward i no_hub).node (get_or backward j no_hub).node ((ahead.within i no_hub hi).0) ((back.within j no_hub hj).0) (omega arith) in
+      let node : (get_or forward i no_hub).node ≡ (get_or backward j no_hub).node = apart (get_or forward i no_hub).node (get_or backward j no_hub).node
+      ((ahead.within i no_hub hi).0) ((back.within j no_hub hj).0) (omega arith) in
       let cap = so_far.most in
       record {
         i_within = omega arith;
@@ -98,5 +106,6 @@ module _ {rank : List ℕ} {forward backward : List Hub} (ahead : IsRising rank 
         ];
       }
 
-pub merged : (forward backward : List Hub) (i j best : ℕ) → IsMerging forward backward i j best → (length forward ≤ i) ⊎ (length backward ≤ j) → IsLeastInCommon forward backward best
+pub merged : (forward backward : List Hub) (i j best : ℕ) → IsMerging forward backward i j best → (length forward ≤ i) ⊎ (length backward ≤ j) →
+    IsLeastInCommon forward backward best
 merged forward backward i j best so_far ends = search (rules, get_or_default)

@@ -1,11 +1,63 @@
 -- Nodes in the order of their keys.
-use Rattle.std.proofs.Common.{◌≡◌, ℕ, ◌+◌, ◌-◌, ◌*◌, ◌%◌, ◌<◌, ◌≤◌, false, eqb, List, length, get_or, slice_index, map, All, sym, ap, ◌∙◌, subst, inl, inr, arith}
-use Rattle.travel_times.proofs.Common.{cases_eq, cases_lt, nat_tests, length-map, get_or-map, get_or_default, Contains-get_or, Arc, degree, key_of, IsNodeOrder, IsRanking, ne_eqb, ext_get_or}
+use Rattle.std.proofs.Common.{
+  ◌≡◌,
+  ℕ,
+  ◌+◌,
+  ◌-◌,
+  ◌*◌,
+  ◌%◌,
+  ◌<◌,
+  ◌≤◌,
+  false,
+  eqb,
+  List,
+  length,
+  get_or,
+  slice_index,
+  map,
+  All,
+  sym,
+  ap,
+  ◌∙◌,
+  subst,
+  inl,
+  inr,
+  arith,
+}
+use Rattle.travel_times.proofs.Common.{
+  cases_eq,
+  cases_lt,
+  nat_tests,
+  length-map,
+  get_or-map,
+  get_or_default,
+  Contains-get_or,
+  Arc,
+  degree,
+  key_of,
+  IsNodeOrder,
+  IsRanking,
+  ne_eqb,
+  ext_get_or,
+}
 use Rattle.std.specs.List.{IsDistinct}
 use Rattle.std.specs.List.Sorted.{IsPermutation, IsStrictlyIncreasing, IsSorted}
 use Rattle.std.specs.Ordering.{nat_cmp, ordering_then, is_lt}
-use Rattle.std.proofs.lemmas.List.Sorted.{IsNonDecreasingBy-from_sort, IsPermutation-sym, IsPermutation-map, All-permutation, Contains-permutation, length_permutation}
-use Rattle.std.proofs.lemmas.Map.Keys.{IsDistinct-from_apart, IsDistinct-IsPermutation, IsStrictlyIncreasing-from_distinct, sorted_from_strictly_increasing, below_from_sorted}
+use Rattle.std.proofs.lemmas.List.Sorted.{
+  IsNonDecreasingBy-from_sort,
+  IsPermutation-sym,
+  IsPermutation-map,
+  All-permutation,
+  Contains-permutation,
+  length_permutation,
+}
+use Rattle.std.proofs.lemmas.Map.Keys.{
+  IsDistinct-from_apart,
+  IsDistinct-IsPermutation,
+  IsStrictlyIncreasing-from_distinct,
+  sorted_from_strictly_increasing,
+  below_from_sorted,
+}
 use Rattle.travel_times.proofs.labels.Keys.{key_lower}
 
 node_of_number : (a i : ℕ) → i < 100000 → (a * 100000 + i) % 100000 ≡ i
@@ -18,7 +70,8 @@ node_of_key arcs node within = node_of_number (1000000 - degree arcs node) node 
 eqb_flips : (x y : ℕ) → eqb x y ≡ eqb y x
 eqb_flips x y = grind (arith, nat_tests)
 
-pub node_order : (arcs : List Arc) (n : ℕ) (keys sorted : List ℕ) → n ≤ 100000 → length keys ≡ n → ((node : ℕ) → node < n → slice_index keys node ≡ key_of arcs node) → IsPermutation keys sorted → IsSorted nat_cmp sorted
+pub node_order : (arcs : List Arc) (n : ℕ) (keys sorted : List ℕ) → n ≤ 100000 → length keys ≡ n →
+    ((node : ℕ) → node < n → slice_index keys node ≡ key_of arcs node) → IsPermutation keys sorted → IsSorted nat_cmp sorted
     → IsNodeOrder arcs n (map (λ key. key % 100000) sorted)
 node_order arcs n keys sorted few each are moved rise =
     let apart : IsDistinct eqb keys = IsDistinct-from_apart eqb keys (λ i j d lt h. ne_eqb (get_or keys i d) (get_or keys j d) (λ same.
@@ -33,8 +86,10 @@ node_order arcs n keys sorted few each are moved rise =
     let has = Contains-permutation sorted keys (get_or sorted r 0) (IsPermutation-sym keys sorted moved) (Contains-get_or sorted r 0 h) in
     (has.0, omega (arith, has.1, each), sym (sym (are has.0 (omega (arith, has.1, each))) ∙ get_or_default keys has.0 0 (get_or sorted r 0) has.1 ∙ has.2)) in
     let node_at : (r : ℕ) (h : r < length sorted) → slice_index (map (λ (key : ℕ). key % 100000) sorted) r ≡ (from r h).0 = λ r h.
-    get_or-map (λ (key : ℕ). key % 100000) sorted r 0 0 h ∙ ap (λ (k : ℕ). k % 100000) ((from r h).2) ∙ node_of_key arcs (from r h).0 (omega (arith, (from r h).1)) in
-    let key_at : (r : ℕ) (h : r < length sorted) → key_of arcs (slice_index (map (λ (key : ℕ). key % 100000) sorted) r) ≡ slice_index sorted r = λ r h. ap (key_of arcs) (node_at r h) ∙ sym ((from r h).2) in
+    get_or-map (λ (key : ℕ). key % 100000) sorted r 0 0 h ∙ ap (λ (k : ℕ). k % 100000) ((from r h).2) ∙
+    node_of_key arcs (from r h).0 (omega (arith, (from r h).1)) in
+    let key_at : (r : ℕ) (h : r < length sorted) → key_of arcs (slice_index (map (λ (key : ℕ). key % 100000) sorted) r) ≡ slice_index sorted r =
+    λ r h. ap (key_of arcs) (node_at r h) ∙ sym ((from r h).2) in
     record {
       each = long ∙ length_permutation keys sorted moved ∙ each;
       within = λ r h. let inside : r < length sorted = omega (arith, h, long) in rw (node_at r inside) ((from r inside).1);
@@ -43,8 +98,12 @@ node_order arcs n keys sorted few each are moved rise =
           rw (key_at r (omega (arith, lt, hs)), key_at s hs) (below_from_sorted sorted r s 0 (sorted_from_strictly_increasing sorted strict) lt hs);
       all = λ node h.
           let has = Contains-permutation keys sorted (get_or keys node 0) moved (Contains-get_or keys node 0 (omega (arith, h, each))) in
-          let key : slice_index sorted has.0 ≡ key_of arcs node = get_or_default sorted has.0 0 (get_or keys node 0) has.1 ∙ has.2 ∙ are node h in
-          (has.0, omega (arith, has.1, long), get_or-map (λ (key : ℕ). key % 100000) sorted has.0 0 0 has.1 ∙ ap (λ (k : ℕ). k % 100000) key ∙ node_of_key arcs node (omega arith));
+          let key : slice_index sorted has.0 ≡ key_of arcs node = get_or_default sorted has.0 0 (get_or keys node 0) has.1 ∙ has.2 ∙ are node h in (
+            has.0,
+            omega (arith, has.1, long),
+            get_or-map (λ (key : ℕ). key % 100000) sorted has.0 0 0 has.1 ∙ ap (λ (k : ℕ). k % 100000) key ∙
+                node_of_key arcs node (omega arith),
+          );
     }
 
 -- ---- pairs of what is missing to the most arcs, and the node
@@ -60,7 +119,9 @@ not_less : (x y : ℕ) → x ≤ y → is_lt (nat_cmp y x) ≡ false
 not_less x y le = grind (arith, nat_tests)
 
 -- pairs in order are nodes by rank
-pub pair_order : (arcs : List Arc) (n : ℕ) (keys sorted : List (ℕ × ℕ)) → n ≤ 100000 → length keys ≡ n → ((node : ℕ) → node < n → get_or keys node (0, 0) ≡ (1000000 - degree arcs node, node)) → IsPermutation keys sorted → IsSorted (λ s t. ordering_then (nat_cmp s.0 t.0) (nat_cmp s.1 t.1)) sorted
+pub pair_order : (arcs : List Arc) (n : ℕ) (keys sorted : List (ℕ × ℕ)) → n ≤ 100000 → length keys ≡ n →
+    ((node : ℕ) → node < n → get_or keys node (0, 0) ≡ (1000000 - degree arcs node, node)) → IsPermutation keys sorted →
+    IsSorted (λ s t. ordering_then (nat_cmp s.0 t.0) (nat_cmp s.1 t.1)) sorted
     → IsNodeOrder arcs n (map (λ key. key.1) sorted)
 pair_order arcs n keys sorted few each are moved rise =
     let long = length-map sorted number in
@@ -77,15 +138,19 @@ pair_order arcs n keys sorted few each are moved rise =
     (not_less (number s) (number t) (ordered s.0 s.1 t.0 t.1 (small k (0, 0) here) (rise k (0, 0) low inside))) in
     let lengths = length-map (map number sorted) (λ (key : ℕ). key % 100000) in
     let nodes : map (λ (key : ℕ). key % 100000) (map number sorted) ≡ map (λ (key : ℕ × ℕ). key.1) sorted =
-    ext_get_or 0 (map (λ (key : ℕ). key % 100000) (map number sorted)) (map (λ (key : ℕ × ℕ). key.1) sorted) (lengths ∙ long ∙ sym (length-map sorted (λ (key : ℕ × ℕ). key.1))) (λ r h.
+    ext_get_or 0 (map (λ (key : ℕ). key % 100000) (map number sorted)) (map (λ (key : ℕ × ℕ). key.1) sorted)
+    (lengths ∙ long ∙ sym (length-map sorted (λ (key : ℕ × ℕ). key.1))) (λ r h.
     let inside : r < length sorted = omega (arith, h, long, lengths) in
     let k = get_or sorted r (0, 0) in
-    get_or-map (λ (key : ℕ). key % 100000) (map number sorted) r 0 0 (omega (arith, inside, long)) ∙ ap (λ (key : ℕ). key % 100000) (get_or-map number sorted r (0, 0) 0 inside)
+    get_or-map (λ (key : ℕ). key % 100000) (map number sorted) r 0 0 (omega (arith, inside, long)) ∙
+    ap (λ (key : ℕ). key % 100000) (get_or-map number sorted r (0, 0) 0 inside)
     ∙ node_of_number k.0 k.1 (small r (0, 0) inside) ∙ sym (get_or-map (λ (key : ℕ × ℕ). key.1) sorted r (0, 0) 0 inside)) in
-    subst (IsNodeOrder arcs n) nodes (node_order arcs n (map number keys) (map number sorted) few (length-map keys number ∙ each) numbers (IsPermutation-map number keys sorted moved) rises)
+    subst (IsNodeOrder arcs n) nodes (node_order arcs n (map number keys) (map number sorted) few (length-map keys number ∙ each) numbers
+    (IsPermutation-map number keys sorted moved) rises)
 
 -- the places of nodes by rank rank them
-pub ranking : (arcs : List Arc) (n : ℕ) (order rank : List ℕ) → n ≤ 100000 → length arcs ≤ 400000 → IsNodeOrder arcs n order → length rank ≡ n → ((r : ℕ) → r < length order → slice_index rank (slice_index order r) ≡ r) → IsRanking arcs n rank
+pub ranking : (arcs : List Arc) (n : ℕ) (order rank : List ℕ) → n ≤ 100000 → length arcs ≤ 400000 → IsNodeOrder arcs n order → length rank ≡ n →
+    ((r : ℕ) → r < length order → slice_index rank (slice_index order r) ≡ r) → IsRanking arcs n rank
 ranking arcs n order rank few few_arcs of each placed =
     let place : (a : ℕ) → a < n → (r : ℕ) × (r < length order) × (slice_index order r ≡ a) × (slice_index rank a ≡ r) = λ a h.
     let at = of.all a h in

@@ -1,25 +1,61 @@
 -- What two labels have in common is the travel time.
 use Rattle.std.proofs.Common.{◌≡◌, ◌≢◌, ℕ, suc, ◌+◌, ◌<◌, ◌≤◌, ◌⊎◌, List, ◌++◌, length, get_or, All, sym, ap, ◌∙◌, inl, inr, arith}
-use Rattle.travel_times.proofs.Common.{get_or_default, Contains-get_or, never, longest, Arc, IsWalk, walk_seconds, IsLeastTime, IsTimeBetween, HasNoWalk, Roads, IsNetwork, IsArcAmong, Hub, IsForwardHub, IsBackwardHub, IsLabel, IsOfLowerRank, NodeLabels, AreLabelsOf, label_at, key_of, IsLeastInCommon}
+use Rattle.travel_times.proofs.Common.{
+  get_or_default,
+  Contains-get_or,
+  never,
+  longest,
+  Arc,
+  IsWalk,
+  walk_seconds,
+  IsLeastTime,
+  IsTimeBetween,
+  HasNoWalk,
+  Roads,
+  IsNetwork,
+  IsArcAmong,
+  Hub,
+  IsForwardHub,
+  IsBackwardHub,
+  IsLabel,
+  IsOfLowerRank,
+  NodeLabels,
+  AreLabelsOf,
+  label_at,
+  key_of,
+  IsLeastInCommon,
+}
 use Rattle.travel_times.proofs.lemmas.search.WalkLemmas.{IsWalk-append, walk_seconds-append, short_walk, goal_within}
 use Rattle.travel_times.proofs.labels.Times.{AreTimes, times_of, metric_of, time_is, time_least, least_is}
 use Rattle.travel_times.proofs.labels.Cover.{IsClear, cover}
 use Rattle.travel_times.proofs.labels.Keys.{key_lower}
 
-module _ {arcs : List Arc} {n : ℕ} {time : ℕ → ℕ → ℕ} (among : All (IsArcAmong n) arcs) (few : n ≤ 100000) (few_arcs : length arcs ≤ 400000) (are : AreTimes arcs n time) where
+module _ {arcs : List Arc} {n : ℕ} {time : ℕ → ℕ → ℕ} (among : All (IsArcAmong n) arcs) (few : n ≤ 100000) (few_arcs : length arcs ≤ 400000)
+    (are : AreTimes arcs n time) where
   -- hubs by travel times
-  first : (p q h w before after : ℕ) → p < n → q < n → h < n → IsClear n time (key_of arcs) p q (key_of arcs h) → IsOfLowerRank arcs w h → IsLeastTime arcs p w before → IsLeastTime arcs w q after → before + after ≢ time p q
+  first : (p q h w before after : ℕ) → p < n → q < n → h < n → IsClear n time (key_of arcs) p q (key_of arcs h) → IsOfLowerRank arcs w h →
+      IsLeastTime arcs p w before → IsLeastTime arcs w q after → before + after ≢ time p q
   first p q h w before after hp hq hh clear low from to e =
       let hw : w < n = goal_within arcs from.walk n p w among from.walks hp in
-      clear w hw ((key_lower arcs w h few_arcs (omega arith) (omega arith)).0 low) (omega (arith, e, (time_is among few are p w before hp hw from).0, (time_is among few are w q after hw hq to).0))
+      clear w hw ((key_lower arcs w h few_arcs (omega arith) (omega arith)).0 low)
+      (omega (arith, e, (time_is among few are p w before hp hw from).0, (time_is among few are w q after hw hq to).0))
 
   forward_hub : (a v : ℕ) → a < n → v < n → time a v ≤ longest → IsClear n time (key_of arcs) a v (key_of arcs v) → IsForwardHub arcs a v (time a v)
-  forward_hub a v ha hv finite clear = record { time = least_is among few are a v ha hv finite; first = λ w before after low from to. first a v v w before after ha hv hv clear low from to }
+  forward_hub a v ha hv finite clear = record {
+    time = least_is among few are a v ha hv finite;
+    first =
+        λ w before after low from to. first a v v w before after ha hv hv clear low from to;
+  }
 
   backward_hub : (b v : ℕ) → b < n → v < n → time v b ≤ longest → IsClear n time (key_of arcs) v b (key_of arcs v) → IsBackwardHub arcs b v (time v b)
-  backward_hub b v hb hv finite clear = record { time = least_is among few are v b hv hb finite; first = λ w before after low from to. first v b v w before after hv hb hv clear low from to }
+  backward_hub b v hb hv finite clear = record {
+    time = least_is among few are v b hv hb finite;
+    first =
+        λ w before after low from to. first v b v w before after hv hb hv clear low from to;
+  }
 
-  module _ {a b : ℕ} {forward backward : List Hub} (ha : a < n) (hb : b < n) (from : IsLabel arcs (IsForwardHub arcs a) forward) (to : IsLabel arcs (IsBackwardHub arcs b) backward) {s : ℕ} (common : IsLeastInCommon forward backward s) where
+  module _ {a b : ℕ} {forward backward : List Hub} (ha : a < n) (hb : b < n) (from : IsLabel arcs (IsForwardHub arcs a) forward)
+      (to : IsLabel arcs (IsBackwardHub arcs b) backward) {s : ℕ} (common : IsLeastInCommon forward backward s) where
     -- what is given is a way
     given_way : (s ≡ never) ⊎ ((walk : List Arc) × IsWalk arcs a walk b × (walk_seconds walk ≡ s) × (time a b ≤ s))
     given_way = elim common.given [
@@ -54,18 +90,24 @@ module _ {arcs : List Arc} {n : ℕ} {time : ℕ → ℕ → ℕ} (among : All (
     time_in_common = elim (are a b ha hb) [
       | inl least ↦
           let le = no_shorter (time_is among few are a b (time a b) ha hb least).1 in
-          elim given_way [ inl far ↦ absurd (omega (arith, far, le, (time_is among few are a b (time a b) ha hb least).1)) | inr way ↦ let same : time a b ≡ s = omega (arith, le, way.3) in inl (rw same at least) ]
+          elim given_way [
+            | inl far ↦ absurd (omega (arith, far, le, (time_is among few are a b (time a b) ha hb least).1))
+            | inr way ↦ let same : time a b ≡ s =
+                omega (arith, le, way.3) in inl (rw same at least)
+          ]
       | inr none ↦ elim given_way [ inl far ↦ inr (none.0, far) | inr way ↦ absurd (none.0 way.0 way.1) ]
     ]
 
 -- the labels of a network
-pub time_by_labels : (roads : Roads) (labels : NodeLabels) (a b s : ℕ) → AreLabelsOf roads labels → a < length roads.nodes → b < length roads.nodes → IsLeastInCommon (label_at labels.forward a) (label_at labels.backward b) s → IsTimeBetween roads.arcs a b s
+pub time_by_labels : (roads : Roads) (labels : NodeLabels) (a b s : ℕ) → AreLabelsOf roads labels → a < length roads.nodes → b < length roads.nodes →
+    IsLeastInCommon (label_at labels.forward a) (label_at labels.backward b) s → IsTimeBetween roads.arcs a b s
 time_by_labels roads labels a b s of ha hb common =
     let times = times_of roads.arcs (length roads.nodes) of.network.arcs of.network.few_nodes in
     time_in_common of.network.arcs of.network.few_nodes of.network.few_arcs times.1 ha hb (of.forward a ha) (of.backward b hb) common
 
 -- no walk takes the time that stands for none
-pub no_walk_at_never : (roads : Roads) (a b s : ℕ) → IsNetwork roads → a < length roads.nodes → IsTimeBetween roads.arcs a b s → s ≡ never → HasNoWalk roads.arcs a b
+pub no_walk_at_never : (roads : Roads) (a b s : ℕ) → IsNetwork roads → a < length roads.nodes → IsTimeBetween roads.arcs a b s → s ≡ never →
+    HasNoWalk roads.arcs a b
 no_walk_at_never roads a b s network ha (inl least) far =
     let short = short_walk roads.arcs least.walk (length roads.nodes) a b network.arcs network.few_nodes ha least.walks in
     absurd (omega (arith, short.3, least.least short.0 short.1))

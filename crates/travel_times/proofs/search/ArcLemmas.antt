@@ -1,4 +1,27 @@
-use Rattle.std.proofs.Common.{rules, ◌≡◌, ℕ, zero, suc, ◌+◌, ◌<◌, ◌≤◌, ⊎_elim, List, [], ◌∷◌, ◌++◌, length, map, slice_index, slice_range, add-one, refl, ap, ◌∙◌, arith}
+use Rattle.std.proofs.Common.{
+  rules,
+  ◌≡◌,
+  ℕ,
+  zero,
+  suc,
+  ◌+◌,
+  ◌<◌,
+  ◌≤◌,
+  ⊎_elim,
+  List,
+  [],
+  ◌∷◌,
+  ◌++◌,
+  length,
+  map,
+  slice_index,
+  slice_range,
+  add-one,
+  refl,
+  ap,
+  ◌∙◌,
+  arith,
+}
 use Rattle.travel_times.proofs.Common.{cases_lt, take-append-le, drop-append-le, get_or_append_left, get_or_push, Arc, Hop, hop_of, leaving}
 use Rattle.std.proofs.lemmas.List.{length-append, length-drop, take_all}
 use Rattle.std.proofs.Math.Seq.{drop-append_seam}
@@ -36,8 +59,10 @@ AreCopied-push arcs count ends hops copied =
     let end : ℕ = length (hops ++ more) in
     let each : length ends ≡ count = copied.copy.each in
     let longer : length (hops ++ more) ≡ length hops + length more = length-append hops more in
-    let start : (node : ℕ) → node ≤ count → start_at (ends ++ end ∷ []) node ≡ start_at ends node = λ node below. start_at-push ends end node (omega (arith, below, each)) in
-    let earlier : (node : ℕ) → node < count → slice_index (ends ++ end ∷ []) node ≡ slice_index ends node = λ node below. get_or_append_left ends (end ∷ []) 0 node (omega (arith, below, each)) in
+    let start : (node : ℕ) → node ≤ count → start_at (ends ++ end ∷ []) node ≡ start_at ends node =
+    λ node below. start_at-push ends end node (omega (arith, below, each)) in
+    let earlier : (node : ℕ) → node < count → slice_index (ends ++ end ∷ []) node ≡ slice_index ends node =
+    λ node below. get_or_append_left ends (end ∷ []) 0 node (omega (arith, below, each)) in
     let last : (node : ℕ) → count ≡ node → slice_index (ends ++ end ∷ []) node ≡ end = λ node is. get_or_push ends end 0 node (each ∙ is) in
     let is_last : (node : ℕ) → node < count + 1 → count ≤ node → count ≡ node = λ node below past. omega (arith, below, past) in
     record {
@@ -45,7 +70,8 @@ AreCopied-push arcs count ends hops copied =
         each = length-append ends (end ∷ []) ∙ omega (arith, each);
         placed = λ node below. ⊎_elim
             (λ (h : node < count). rw (start node (omega (arith, h)), earlier node h)
-            (slice_range-append hops more (start_at ends node) (slice_index ends node) (copied.rising node h) (copied.within node h) ∙ copied.copy.placed node h))
+            (slice_range-append hops more (start_at ends node) (slice_index ends node) (copied.rising node h) (copied.within node h) ∙
+            copied.copy.placed node h))
             (λ (h : count ≤ node). let is = is_last node below h in
             rw (← is) (rw (start count (omega arith), last count refl, copied.whole) (slice_range-pushed hops more)))
             (cases_lt node count);

@@ -1,7 +1,57 @@
 -- The rows of a settled batch, and those that its vehicles hold, make a graph without a fault.
 use Rattle.std.proofs.lemmas.Bool.Decides.{nat_tests}
-use Rattle.std.proofs.Common.{◌≡◌, ◌==◌, ℕ, suc, ◌<◌, ◌≤◌, inl, inr, Bool, true, false, Option, None, Some, List, [], ◌∷◌, length, get_or, refl, sym, ◌∙◌, subst, arith, MatchBool, rules}
-use Rattle.trip_graph.proofs.Common.{list_any, cases_lt, IsTravelTime, Settled, IsServable, IsTrip, trip_task, vehicle_at, IsSound, SubTripsAreServable, DelaysAreSmall, TripRow, Graph, no_row, choice_at, riders_at, has_rider, times_served, HoldsRightly, IsRowWith, HoldRows, AreRowsUpTo}
+use Rattle.std.proofs.Common.{
+  ◌≡◌,
+  ◌==◌,
+  ℕ,
+  suc,
+  ◌<◌,
+  ◌≤◌,
+  inl,
+  inr,
+  Bool,
+  true,
+  false,
+  Option,
+  None,
+  Some,
+  List,
+  [],
+  ◌∷◌,
+  length,
+  get_or,
+  refl,
+  sym,
+  ◌∙◌,
+  subst,
+  arith,
+  MatchBool,
+  rules,
+}
+use Rattle.trip_graph.proofs.Common.{
+  list_any,
+  cases_lt,
+  IsTravelTime,
+  Settled,
+  IsServable,
+  IsTrip,
+  trip_task,
+  vehicle_at,
+  IsSound,
+  SubTripsAreServable,
+  DelaysAreSmall,
+  TripRow,
+  Graph,
+  no_row,
+  choice_at,
+  riders_at,
+  has_rider,
+  times_served,
+  HoldsRightly,
+  IsRowWith,
+  HoldRows,
+  AreRowsUpTo,
+}
 use Rattle.std.specs.List.{Contains}
 use Rattle.std.proofs.lemmas.Bool.{eqb-true}
 use Rattle.std.proofs.lemmas.Map.Views.{Contains-from_any}
@@ -32,7 +82,8 @@ only_memory g (Held vehicle) rows order held (inl h) = absurd (h.wrong (held.hol
 only_memory g (Held vehicle) rows order held (inr h) = absurd (h.differs held.sized)
 only_memory g OutOfMemory rows order held h = refl
 
-module _ (most points : ℕ) (tau : ℕ → ℕ → ℕ) (settled : Settled) (subs : SubTripsAreServable) (delays : DelaysAreSmall) (few : most ≤ 6) (travel : IsTravelTime points tau) (sound : IsSound most points tau settled) where
+module _ (most points : ℕ) (tau : ℕ → ℕ → ℕ) (settled : Settled) (subs : SubTripsAreServable) (delays : DelaysAreSmall) (few : most ≤ 6)
+    (travel : IsTravelTime points tau) (sound : IsSound most points tau settled) where
   -- where a vehicle serves a trip, it serves its passengers alone
   alone_served : (v : ℕ) (trip : List ℕ) → v < length settled.vehicles → IsTrip (length settled.riders) trip → length trip ≤ 6
       → IsServable tau (trip_task settled v trip) → IsServable tau (trip_task settled v [])
@@ -47,7 +98,8 @@ module _ (most points : ℕ) (tau : ℕ → ℕ → ℕ) (settled : Settled) (su
     good_rows k lt =
         let row = exact.right k lt in
         let size = row.served.size in
-        let small = delays most points tau settled (get_or g.rows k no_row).vehicle (get_or g.rows k no_row).riders.items row.least.stops sound row.served.vehicle row.served.riders (omega arith) row.least.serves in
+        let small = delays most points tau settled (get_or g.rows k no_row).vehicle (get_or g.rows k no_row).riders.items row.least.stops sound
+        row.served.vehicle row.served.riders (omega arith) row.least.serves in
         let cost = row.least.has_delay in
         record {
           vehicle = (let b = row.served.vehicle in omega arith);
@@ -61,7 +113,8 @@ module _ (most points : ℕ) (tau : ℕ → ℕ → ℕ) (settled : Settled) (su
     rows_in_order order k lt = order k (suc k) (omega arith) lt
 
     -- no earlier vehicle holds a rider of the row
-    none_earlier : (v k : ℕ) → v < length settled.vehicles → IsRowWith g.rows v (vehicle_at settled v).held.items k → (r : ℕ) → has_rider g k r ≡ true → times_served g g.held v r ≡ 0
+    none_earlier : (v k : ℕ) → v < length settled.vehicles → IsRowWith g.rows v (vehicle_at settled v).held.items k → (r : ℕ) → has_rider g k r ≡ true →
+        times_served g g.held v r ≡ 0
     none_earlier v k less at r here =
         elim (cases_lt 0 (times_served g g.held v r)) as (λ _. times_served g g.held v r ≡ 0) [
           | inl some ↦
@@ -78,8 +131,10 @@ module _ (most points : ℕ) (tau : ℕ → ℕ → ℕ) (settled : Settled) (su
           | inr none ↦ omega arith
         ]
 
-    holds_by : (v : ℕ) → v < length settled.vehicles → (late : Bool) → MatchBool late (IsServable tau (trip_task settled v []) → ⊥) (IsServable tau (trip_task settled v []))
-        → MatchBool late (choice_at g.held v ≡ None) ((k : ℕ) × (choice_at g.held v ≡ Some k) × IsRowWith g.rows v (vehicle_at settled v).held.items k) → HoldsRightly g v
+    holds_by : (v : ℕ) → v < length settled.vehicles → (late : Bool) → MatchBool late (IsServable tau (trip_task settled v []) → ⊥)
+        (IsServable tau (trip_task settled v []))
+        → MatchBool late (choice_at g.held v ≡ None) ((k : ℕ) × (choice_at g.held v ≡ Some k) × IsRowWith g.rows v (vehicle_at settled v).held.items k) →
+        HoldsRightly g v
     holds_by v less true unserved none = grind (arith, nat_tests, (alone_served v))
     holds_by v less false served found = search (rules, holds_at, none_earlier)
 

@@ -1,5 +1,81 @@
-use Rattle.std.proofs.Common.{◌≡◌, ℕ, suc, ◌+◌, ◌-◌, ◌<◌, ◌≤◌, inl, inr, Bool, true, false, Option, None, Some, List, [], ◌∷◌, ◌++◌, length, get_or, map, take, refl, sym, ap, ◌∙◌, subst, arith, MatchBool, MatchOption, rules}
-use Rattle.trip_graph.proofs.Common.{cases_lt, length-map, get_or_append_left, get_or-append_right, get_or_push, get_or-map, get_or_default, get_or_past, take_more, All-append, All-nil, flat_map-cons, get_or-flat_map, sum_by-cons, sum_by_push, sum_by-take-le, Settled, SettledVehicle, IsServable, IsTrip, IsRow, trip_task, vehicle_at, IsSoundVehicle, TripRow, Graph, IsGoodGraph, no_row, choice_at, TripOf, AreSomeRows, AreRowsOfSize, AreLevels, row_total, level_total, AreRowsUpTo, total_upto, trip_row, vehicle_rows, IsRowWith, HoldRows, IsTripGraphOf}
+use Rattle.std.proofs.Common.{
+  ◌≡◌,
+  ℕ,
+  suc,
+  ◌+◌,
+  ◌-◌,
+  ◌<◌,
+  ◌≤◌,
+  inl,
+  inr,
+  Bool,
+  true,
+  false,
+  Option,
+  None,
+  Some,
+  List,
+  [],
+  ◌∷◌,
+  ◌++◌,
+  length,
+  get_or,
+  map,
+  take,
+  refl,
+  sym,
+  ap,
+  ◌∙◌,
+  subst,
+  arith,
+  MatchBool,
+  MatchOption,
+  rules,
+}
+use Rattle.trip_graph.proofs.Common.{
+  cases_lt,
+  length-map,
+  get_or_append_left,
+  get_or-append_right,
+  get_or_push,
+  get_or-map,
+  get_or_default,
+  get_or_past,
+  take_more,
+  All-append,
+  All-nil,
+  flat_map-cons,
+  get_or-flat_map,
+  sum_by-cons,
+  sum_by_push,
+  sum_by-take-le,
+  Settled,
+  SettledVehicle,
+  IsServable,
+  IsTrip,
+  IsRow,
+  trip_task,
+  vehicle_at,
+  IsSoundVehicle,
+  TripRow,
+  Graph,
+  IsGoodGraph,
+  no_row,
+  choice_at,
+  TripOf,
+  AreSomeRows,
+  AreRowsOfSize,
+  AreLevels,
+  row_total,
+  level_total,
+  AreRowsUpTo,
+  total_upto,
+  trip_row,
+  vehicle_rows,
+  IsRowWith,
+  HoldRows,
+  IsTripGraphOf,
+}
 use Rattle.std.specs.List.{All, flat_map}
 use Rattle.std.proofs.lemmas.List.{length-append, take_all}
 use Rattle.std.proofs.lemmas.List.Folds.{length-flat_map-take}
@@ -10,11 +86,13 @@ no_trip : TripOf
 no_trip = record { riders = record { items = [] }; cost = 0 }
 
 -- all rows of a vehicle, level by level
-own_all : (P : TripRow → Type 0) (v : ℕ) (levels : List (List (List TripOf))) → ((k : ℕ) → k < length levels → All P (map (trip_row v) (get_or (get_or levels k []) v []))) → All P (vehicle_rows levels v)
+own_all : (P : TripRow → Type 0) (v : ℕ) (levels : List (List (List TripOf))) → ((k : ℕ) → k < length levels →
+    All P (map (trip_row v) (get_or (get_or levels k []) v []))) → All P (vehicle_rows levels v)
 own_all P v [] each = All-nil P
 own_all P v (lists ∷ levels) each =
     rw (flat_map-cons (λ (ls : List (List TripOf)). map (trip_row v) (get_or ls v [])) lists levels)
-    (All-append P (map (trip_row v) (get_or lists v [])) (vehicle_rows levels v) (each 0 (omega arith)) (own_all P v levels (λ k lt. each (suc k) (omega arith))))
+    (All-append P (map (trip_row v) (get_or lists v [])) (vehicle_rows levels v) (each 0 (omega arith))
+    (own_all P v levels (λ k lt. each (suc k) (omega arith))))
 
 pub total_none : (levels : List (List (List TripOf))) → total_upto levels 0 ≡ 0
 total_none [] = refl
@@ -45,7 +123,8 @@ total_step (lists ∷ levels) v =
     omega (arith, length-map (get_or lists v []) (trip_row v), one_more_list lists v, total_step levels v)
 
 -- all vehicles together have all rows
-pub total_all : (levels : List (List (List TripOf))) (n : ℕ) → ((k : ℕ) → k < length levels → length (get_or levels k []) ≤ n) → total_upto levels n ≡ level_total levels
+pub total_all : (levels : List (List (List TripOf))) (n : ℕ) → ((k : ℕ) → k < length levels → length (get_or levels k []) ≤ n) →
+    total_upto levels n ≡ level_total levels
 total_all [] n few = refl
 total_all (lists ∷ levels) n few =
     let a = sum_by-cons (λ (ls : List (List TripOf)). row_total (take n ls)) lists levels in
@@ -65,7 +144,19 @@ module _ (most : ℕ) (tau : ℕ → ℕ → ℕ) (settled : Settled) where
       let right = level.right k no_trip within in
       let served = right.served in
       rw (get_or-map (trip_row v) rows k no_trip d within)
-      (record { own = refl; right = record { served = record { vehicle = served.vehicle; riders = served.riders; size = omega (arith, level.sized k no_trip within); servable = served.servable }; least = right.least } })
+      (record {
+        own = refl;
+        right = record {
+          served = record {
+            vehicle = served.vehicle;
+            riders = served.riders;
+            size =
+                omega (arith, level.sized k no_trip within);
+            servable = served.servable;
+          };
+          least = right.least;
+        };
+      })
 
   pub own_rows : (v : ℕ) (levels : List (List (List TripOf))) → length levels ≤ most + 1
       → ((k : ℕ) → k < length levels → AreSomeRows tau settled v (λ n. n ≡ k) (get_or (get_or levels k []) v [])) → All (IsOwn v) (vehicle_rows levels v)
@@ -76,7 +167,8 @@ module _ (most : ℕ) (tau : ℕ → ℕ → ℕ) (settled : Settled) where
       → (k : ℕ) → k < length levels → AreSomeRows tau settled v (λ n. n ≡ k) (get_or (get_or levels k []) v [])
   some_of_levels v levels all less k lt = let c = all.count in ((all.each k (omega arith)).each v less).some
 
-  own_of_levels : (v : ℕ) (levels : List (List (List TripOf))) → AreLevels tau settled (most + 1) levels → v < length settled.vehicles → All (IsOwn v) (vehicle_rows levels v)
+  own_of_levels : (v : ℕ) (levels : List (List (List TripOf))) → AreLevels tau settled (most + 1) levels → v < length settled.vehicles →
+      All (IsOwn v) (vehicle_rows levels v)
   own_of_levels v levels all less = own_rows v levels (let c = all.count in omega arith) (some_of_levels v levels all less)
 
   own_whole : (v : ℕ) (levels : List (List (List TripOf))) (trip : List ℕ) → AreLevels tau settled (most + 1) levels → most ≤ 6 → v < length settled.vehicles
@@ -94,22 +186,26 @@ module _ (most : ℕ) (tau : ℕ → ℕ → ℕ) (settled : Settled) where
       let inside : found.0 < length (f (get_or levels n [])) = (let e = length-map rows (trip_row v) in omega arith) in
       let at = get_or-flat_map f levels n found.0 [] no_row lt inside in
       let item : (get_or (map (trip_row v) rows) found.0 no_row).riders.items ≡ trip =
-      ap (λ (r : TripRow). r.riders.items) (get_or-map (trip_row v) rows found.0 no_trip no_row within) ∙ sym (get_or-map g rows found.0 no_trip trip within) ∙ found.2 in
+      ap (λ (r : TripRow). r.riders.items) (get_or-map (trip_row v) rows found.0 no_trip no_row within) ∙ sym (get_or-map g rows found.0 no_trip trip within) ∙
+      found.2 in
       (length (flat_map f (take n levels)) + found.0, omega (arith, length-flat_map-take f levels n [] lt), ap (λ (r : TripRow). r.riders.items) at ∙ item)
 
   pub rows_none : AreRowsUpTo most tau settled 0 []
   rows_none = record { right = λ k lt. absurd (omega arith); below = λ k lt. absurd (omega arith); whole = λ v trip lt. absurd (omega arith) }
 
   -- rows of one vehicle more
-  pub rows_more : (v : ℕ) (levels : List (List (List TripOf))) (rows : List TripRow) → AreLevels tau settled (most + 1) levels → most ≤ 6 → v < length settled.vehicles
+  pub rows_more : (v : ℕ) (levels : List (List (List TripOf))) (rows : List TripRow) → AreLevels tau settled (most + 1) levels → most ≤ 6 →
+      v < length settled.vehicles
       → AreRowsUpTo most tau settled v rows → AreRowsUpTo most tau settled (v + 1) (rows ++ vehicle_rows levels v)
   rows_more v levels rows all few less before =
       let new = vehicle_rows levels v in
       let own = own_of_levels v levels all less in
       let count = length-append rows new in
-      let each : (k : ℕ) → k < length (rows ++ new) → IsRow most tau settled (get_or (rows ++ new) k no_row).vehicle (get_or (rows ++ new) k no_row).riders.items (get_or (rows ++ new) k no_row).cost
+      let each : (k : ℕ) → k < length (rows ++ new) → IsRow most tau settled (get_or (rows ++ new) k no_row).vehicle
+      (get_or (rows ++ new) k no_row).riders.items (get_or (rows ++ new) k no_row).cost
       × ((get_or (rows ++ new) k no_row).vehicle < v + 1) =
-      (λ k lt. elim (cases_lt k (length rows)) as (λ _. IsRow most tau settled (get_or (rows ++ new) k no_row).vehicle (get_or (rows ++ new) k no_row).riders.items (get_or (rows ++ new) k no_row).cost
+      (λ k lt. elim (cases_lt k (length rows)) as (λ _. IsRow most tau settled (get_or (rows ++ new) k no_row).vehicle
+      (get_or (rows ++ new) k no_row).riders.items (get_or (rows ++ new) k no_row).cost
       × ((get_or (rows ++ new) k no_row).vehicle < v + 1)) [
         | inl lower ↦ rw (get_or_append_left rows new no_row k lower) (before.right k lower, (let b = before.below k lower in omega arith))
         | inr ge ↦
@@ -155,10 +251,12 @@ module _ (most : ℕ) (tau : ℕ → ℕ → ℕ) (settled : Settled) where
 
   -- what held_row says
   abbrev pub Finds : ℕ → List TripRow → ℕ → Option ℕ → Type 0
-  Finds v rows from h = MatchBool (vehicle_at settled v).late (h ≡ None) (MatchOption h ((k : ℕ) → from ≤ k → k < length rows → (get_or rows k no_row).riders.items ≡ (vehicle_at settled v).held.items → ⊥)
+  Finds v rows from h = MatchBool (vehicle_at settled v).late (h ≡ None)
+      (MatchOption h ((k : ℕ) → from ≤ k → k < length rows → (get_or rows k no_row).riders.items ≡ (vehicle_at settled v).held.items → ⊥)
       (λ k. (from ≤ k) × (k < length rows) × ((get_or rows k no_row).riders.items ≡ (vehicle_at settled v).held.items)))
 
-  pub finds_at : (v from : ℕ) (vehicle : SettledVehicle) (seen rows : List TripRow) (n : ℕ) (h : Option ℕ) → vehicle ≡ vehicle_at settled v → seen ≡ rows → from ≡ n
+  pub finds_at : (v from : ℕ) (vehicle : SettledVehicle) (seen rows : List TripRow) (n : ℕ) (h : Option ℕ) → vehicle ≡ vehicle_at settled v → seen ≡ rows →
+      from ≡ n
       → MatchBool vehicle.late (h ≡ None) (MatchOption h ((k : ℕ) → from ≤ k → k < length seen → (get_or seen k no_row).riders.items ≡ vehicle.held.items → ⊥)
       (λ k. (from ≤ k) × (k < length seen) × ((get_or seen k no_row).riders.items ≡ vehicle.held.items))) → Finds v rows n h
   finds_at v from vehicle seen rows n h e f g found = rw (e, f, g) at found
@@ -180,7 +278,8 @@ module _ (most : ℕ) (tau : ℕ → ℕ → ℕ) (settled : Settled) where
   can_hold late v (r ∷ rs) free some e = some (omega arith)
 
   -- the row that one vehicle more holds
-  pub hold_more : (points v : ℕ) (levels : List (List (List TripOf))) (rows : List TripRow) (held : List (Option ℕ)) (h : Option ℕ) → AreLevels tau settled (most + 1) levels → most ≤ 6
+  pub hold_more : (points v : ℕ) (levels : List (List (List TripOf))) (rows : List TripRow) (held : List (Option ℕ)) (h : Option ℕ) →
+      AreLevels tau settled (most + 1) levels → most ≤ 6
       → v < length settled.vehicles → IsSoundVehicle most points tau settled v → AreRowsUpTo most tau settled v rows → HoldRows settled v rows held
       → Finds v (rows ++ vehicle_rows levels v) (length rows) h → HoldRows settled (v + 1) (rows ++ vehicle_rows levels v) (held ++ h ∷ [])
   hold_more points v levels rows held h all few less sound before hold found =
@@ -191,7 +290,8 @@ module _ (most : ℕ) (tau : ℕ → ℕ → ℕ) (settled : Settled) where
       let count = length-append rows new in
       let last : MatchBool vehicle.late (h ≡ None) ((k : ℕ) × (h ≡ Some k) × IsRowWith (rows ++ new) v vehicle.held.items k) =
       holds vehicle.late h (length rows) v (rows ++ new) vehicle.held.items found
-      (λ e. after.whole v vehicle.held.items (omega arith) sound.held sound.held_size (can_hold vehicle.late v vehicle.held.items sound.late sound.held_servable e))
+      (λ e. after.whole v vehicle.held.items (omega arith) sound.held sound.held_size (can_hold vehicle.late v vehicle.held.items sound.late sound.held_servable
+      e))
       (λ k lt is. elim (cases_lt k (length rows)) as (λ _. length rows ≤ k) [
         | inl lower ↦
             let e : get_or (rows ++ new) k no_row ≡ get_or rows k no_row = get_or_append_left rows new no_row k lower in
@@ -215,7 +315,8 @@ module _ (most : ℕ) (tau : ℕ → ℕ → ℕ) (settled : Settled) where
             ];
       }
     where
-      kept : (late : Bool) (h : Option ℕ) (w : ℕ) (riders : List ℕ) (rows new : List TripRow) → MatchBool late (h ≡ None) ((k : ℕ) × (h ≡ Some k) × IsRowWith rows w riders k)
+      kept : (late : Bool) (h : Option ℕ) (w : ℕ) (riders : List ℕ) (rows new : List TripRow) →
+          MatchBool late (h ≡ None) ((k : ℕ) × (h ≡ Some k) × IsRowWith rows w riders k)
           → MatchBool late (h ≡ None) ((k : ℕ) × (h ≡ Some k) × IsRowWith (rows ++ new) w riders k)
       kept true h w riders rows new was = was
       kept false h w riders rows new was =
@@ -229,18 +330,22 @@ module _ (most : ℕ) (tau : ℕ → ℕ → ℕ) (settled : Settled) where
             },
           )
 
-  pub total_more : (v : ℕ) (levels : List (List (List TripOf))) (rows : List TripRow) → AreLevels tau settled (most + 1) levels → v < length settled.vehicles → length rows ≡ total_upto levels v
+  pub total_more : (v : ℕ) (levels : List (List (List TripOf))) (rows : List TripRow) → AreLevels tau settled (most + 1) levels → v < length settled.vehicles →
+      length rows ≡ total_upto levels v
       → length (rows ++ vehicle_rows levels v) ≡ total_upto levels (v + 1)
   total_more v levels rows all less so_far = search (rules, total_step, length-append)
 
 -- the rows of all vehicles
-rows_of_all : (most : ℕ) (tau : ℕ → ℕ → ℕ) (settled : Settled) (rows : List TripRow) → AreRowsUpTo most tau settled (length settled.vehicles) rows → AreRowsOf most tau settled rows
+rows_of_all : (most : ℕ) (tau : ℕ → ℕ → ℕ) (settled : Settled) (rows : List TripRow) → AreRowsUpTo most tau settled (length settled.vehicles) rows →
+    AreRowsOf most tau settled rows
 rows_of_all most tau settled rows all = record {
-  right = λ k d lt. subst (λ (row : TripRow). IsRow most tau settled row.vehicle row.riders.items row.cost) (get_or_default rows k no_row d lt) (all.right k lt);
+  right = λ k d lt. subst (λ (row : TripRow). IsRow most tau settled row.vehicle row.riders.items row.cost) (get_or_default rows k no_row d lt)
+      (all.right k lt);
   whole = λ v trip can. all.whole v trip can.vehicle can.riders can.size can.servable;
 }
 
-pub graph_right : (settings : Settings) (tau : ℕ → ℕ → ℕ) (settled : Settled) (graph : Graph) (vehicles riders : ℕ) (rows : List TripRow) (held : List (Option ℕ))
+pub graph_right : (settings : Settings) (tau : ℕ → ℕ → ℕ) (settled : Settled) (graph : Graph) (vehicles riders : ℕ) (rows : List TripRow)
+    (held : List (Option ℕ))
     → graph ≡ record { vehicles = vehicles; riders = riders; penalty = settings.penalty; rows = rows; held = held } → IsGoodGraph graph
     → vehicles ≡ length settled.vehicles → riders ≡ length settled.riders → AreRowsUpTo settings.trip tau settled (length settled.vehicles) rows
     → HoldRows settled (length settled.vehicles) rows held → length rows ≤ settings.pairs → IsTripGraphOf settings tau settled graph
@@ -254,7 +359,8 @@ graph_right settings tau settled graph vehicles riders rows held value good a b 
       left_out = ap (λ (g : Graph). g.penalty) value;
       right = all.right;
       whole = all.whole;
-      hold = (subst (λ (y : List (Option ℕ)). HoldRows settled (length settled.vehicles) graph.rows y) h (subst (λ (x : List TripRow). HoldRows settled (length settled.vehicles) x held) r hold)).each;
+      hold = (subst (λ (y : List (Option ℕ)). HoldRows settled (length settled.vehicles) graph.rows y) h
+          (subst (λ (x : List TripRow). HoldRows settled (length settled.vehicles) x held) r hold)).each;
       few = subst (λ (x : List TripRow). length x ≤ settings.pairs) r few;
       good = good;
     }

@@ -1,6 +1,35 @@
 use Rattle.std.proofs.lemmas.Bool.Decides.{nat_tests}
 use Rattle.std.proofs.Common.{◌≡◌, ℕ, suc, ◌+◌, ◌-◌, ◌<◌, ◌≤◌, inl, inr, List, [], ◌∷◌, ◌++◌, length, get_or, Contains, add-one, sym, ◌∙◌, subst, arith, rules}
-use Rattle.trip_graph.proofs.Common.{cases_lt, length-map, get_or_append_left, get_or_push, get_or-map, get_or_default, All-nil, sum_by_push, IsTravelTime, Settled, SubTripsAreServable, CanServe, IsTrip, IsSound, TripOf, ComesBefore, trips_of, AreSomeRows, AreRowsOfSize, HasMoreThan, IsLevelOf, AreLevelsUpTo, HasMoreOfSize, AreLevels, row_total, level_total, AreLevelsOf, HasMoreRows}
+use Rattle.trip_graph.proofs.Common.{
+  cases_lt,
+  length-map,
+  get_or_append_left,
+  get_or_push,
+  get_or-map,
+  get_or_default,
+  All-nil,
+  sum_by_push,
+  IsTravelTime,
+  Settled,
+  SubTripsAreServable,
+  CanServe,
+  IsTrip,
+  IsSound,
+  TripOf,
+  ComesBefore,
+  trips_of,
+  AreSomeRows,
+  AreRowsOfSize,
+  HasMoreThan,
+  IsLevelOf,
+  AreLevelsUpTo,
+  HasMoreOfSize,
+  AreLevels,
+  row_total,
+  level_total,
+  AreLevelsOf,
+  HasMoreRows,
+}
 use native.Mathlib.Numerals.{unary_clauses}
 use Rattle.std.proofs.lemmas.List.{length-append}
 use Rattle.trip_graph.specs.declared.vehicle.level.Level.{Level}
@@ -51,11 +80,13 @@ module _ (tau : ℕ → ℕ → ℕ) (settled : Settled) where
       subst (λ (n : ℕ). AreRowsOfSize tau settled v n rows) s (subst (λ (r : List TripOf). AreRowsOfSize tau settled v size r) e (level.each v lt))
 
   -- what the vehicle of one number gave
-  pub own_level : (size room number at : ℕ) (vehicles : List ℕ) (levels : List Level) (level : Level) → AreLevelsOf tau settled size room vehicles levels → number ≡ at
+  pub own_level : (size room number at : ℕ) (vehicles : List ℕ) (levels : List Level) (level : Level) → AreLevelsOf tau settled size room vehicles levels →
+      number ≡ at
       → (at < length levels) × (level ≡ get_or levels at level) → IsLevelOf tau settled (get_or vehicles number 0) size room level
   own_level size room number at vehicles levels level all same found = search rules
 
-  pub level_more : (size n : ℕ) (lists : List (List TripOf)) (rows : List TripOf) → AreLevelsUpTo tau settled size n lists → AreRowsOfSize tau settled n size rows
+  pub level_more : (size n : ℕ) (lists : List (List TripOf)) (rows : List TripOf) → AreLevelsUpTo tau settled size n lists →
+      AreRowsOfSize tau settled n size rows
       → AreLevelsUpTo tau settled size (n + 1) (lists ++ rows ∷ [])
   level_more size n lists rows level own =
       record {
@@ -101,7 +132,8 @@ module _ (tau : ℕ → ℕ → ℕ) (settled : Settled) where
       (none_next law points n size travel sound lt (subst (λ (rows : List TripOf). AreRowsOfSize tau settled n size rows) none (level.each n lt)))
 
   -- some rows of one vehicle more, which together with those before are more than the room
-  pub more_than_room : (size room n : ℕ) (lists : List (List TripOf)) (rows : List TripOf) → AreLevelsUpTo tau settled size n lists → AreSomeRows tau settled n (λ m. m ≡ size) rows
+  pub more_than_room : (size room n : ℕ) (lists : List (List TripOf)) (rows : List TripOf) → AreLevelsUpTo tau settled size n lists →
+      AreSomeRows tau settled n (λ m. m ≡ size) rows
       → n < length settled.vehicles → room < row_total lists + length rows → HasMoreOfSize tau settled size room
   more_than_room size room n lists rows level own lt more =
       record {
@@ -111,7 +143,8 @@ module _ (tau : ℕ → ℕ → ℕ) (settled : Settled) where
           | inl lower ↦ rw (get_or_append_left lists (rows ∷ []) [] v (let b = level.total in omega arith)) (level.each v lower).some
           | inr ge ↦
               let e : n ≡ v = (let a = length-append lists (rows ∷ []) in let b = level.total in omega arith) in
-              subst (λ (w : ℕ). AreSomeRows tau settled w (λ m. m ≡ size) (get_or (lists ++ rows ∷ []) w [])) e (rw (get_or_push lists rows [] n level.total) own)
+              subst (λ (w : ℕ). AreSomeRows tau settled w (λ m. m ≡ size) (get_or (lists ++ rows ∷ []) w [])) e
+              (rw (get_or_push lists rows [] n level.total) own)
         ];
         more = rw (total_more lists rows) more;
       }
@@ -124,7 +157,8 @@ module _ (tau : ℕ → ℕ → ℕ) (settled : Settled) where
   pub levels_one : (lists : List (List TripOf)) → AreLevelsUpTo tau settled 0 (length settled.vehicles) lists → AreLevels tau settled 1 (lists ∷ [])
   levels_one lists level = search rules
 
-  pub levels_more : (sizes : ℕ) (levels : List (List (List TripOf))) (lists : List (List TripOf)) → AreLevels tau settled sizes levels → AreLevelsUpTo tau settled sizes (length settled.vehicles) lists
+  pub levels_more : (sizes : ℕ) (levels : List (List (List TripOf))) (lists : List (List TripOf)) → AreLevels tau settled sizes levels →
+      AreLevelsUpTo tau settled sizes (length settled.vehicles) lists
       → AreLevels tau settled (sizes + 1) (levels ++ lists ∷ [])
   levels_more sizes levels lists all level =
       record {
@@ -133,21 +167,25 @@ module _ (tau : ℕ → ℕ → ℕ) (settled : Settled) where
           | inl less ↦ rw (get_or_append_left levels (lists ∷ []) [] k (let b = all.count in omega arith)) (all.each k less)
           | inr ge ↦
               let e : sizes ≡ k = omega arith in
-              subst (λ (j : ℕ). AreLevelsUpTo tau settled j (length settled.vehicles) (get_or (levels ++ lists ∷ []) j [])) e (rw (get_or_push levels lists [] sizes all.count) level)
+              subst (λ (j : ℕ). AreLevelsUpTo tau settled j (length settled.vehicles) (get_or (levels ++ lists ∷ []) j [])) e
+              (rw (get_or_push levels lists [] sizes all.count) level)
         ];
       }
 
-  pub more_of_first : (most room : ℕ) (lists : List (List TripOf)) → most ≤ 6 → AreLevelsUpTo tau settled 0 (length settled.vehicles) lists → room < row_total lists → HasMoreRows tau settled most room
+  pub more_of_first : (most room : ℕ) (lists : List (List TripOf)) → most ≤ 6 → AreLevelsUpTo tau settled 0 (length settled.vehicles) lists →
+      room < row_total lists → HasMoreRows tau settled most room
   more_of_first most room lists small level more =
       more_rows most tau settled room (lists ∷ []) small (record {
         sizes = omega arith;
-        few = λ k lt. let e : 0 ≡ k = omega arith in subst (λ (j : ℕ). length (get_or (lists ∷ []) j []) ≤ length settled.vehicles) e (let t = level.total in omega arith);
+        few = λ k lt. let e : 0 ≡ k = omega arith in subst (λ (j : ℕ). length (get_or (lists ∷ []) j []) ≤ length settled.vehicles) e
+            (let t = level.total in omega arith);
         each = λ k v lt less. let e : 0 ≡ k = omega arith in
             subst (λ (j : ℕ). v < length (get_or (lists ∷ []) j []) → AreSomeRows tau settled v (λ n. n ≡ j) (get_or (get_or (lists ∷ []) j []) v [])) e
             (λ h. (level.each v (let t = level.total in omega arith)).some) less;
       }) (omega arith)
 
-  pub more_of_next : (most room left sizes : ℕ) (levels : List (List (List TripOf))) → most ≤ 6 → AreLevels tau settled sizes levels → HasMoreOfSize tau settled sizes left → sizes ≤ most
+  pub more_of_next : (most room left sizes : ℕ) (levels : List (List (List TripOf))) → most ≤ 6 → AreLevels tau settled sizes levels →
+      HasMoreOfSize tau settled sizes left → sizes ≤ most
       → room ≤ level_total levels + left → HasMoreRows tau settled most room
   more_of_next most room left sizes levels small all more below enough =
       let n = length settled.vehicles in
@@ -159,12 +197,14 @@ module _ (tau : ℕ → ℕ → ℕ) (settled : Settled) where
               let e : sizes ≡ k = (let a = length-append levels (more.lists ∷ []) in let b = all.count in omega arith) in
               subst (λ (j : ℕ). length (get_or (levels ++ more.lists ∷ []) j []) ≤ n) e (rw (get_or_push levels more.lists [] sizes all.count) more.few)
         ];
-        each = λ k v lt. elim (cases_lt k sizes) as (λ _. v < length (get_or (levels ++ more.lists ∷ []) k []) → AreSomeRows tau settled v (λ n. n ≡ k) (get_or (get_or (levels ++ more.lists ∷ []) k []) v [])) [
-          | inl less ↦ rw (get_or_append_left levels (more.lists ∷ []) [] k (let b = all.count in omega arith))
-              (λ h. ((all.each k less).each v (let t = (all.each k less).total in omega arith)).some)
-          | inr ge ↦
-              let e : sizes ≡ k = (let a = length-append levels (more.lists ∷ []) in let b = all.count in omega arith) in
-              subst (λ (j : ℕ). v < length (get_or (levels ++ more.lists ∷ []) j []) → AreSomeRows tau settled v (λ n. n ≡ j) (get_or (get_or (levels ++ more.lists ∷ []) j []) v [])) e
-              (rw (get_or_push levels more.lists [] sizes all.count) (more.each v))
-        ];
+        each = λ k v lt. elim (cases_lt k sizes) as (λ _. v < length (get_or (levels ++ more.lists ∷ []) k []) →
+            AreSomeRows tau settled v (λ n. n ≡ k) (get_or (get_or (levels ++ more.lists ∷ []) k []) v [])) [
+              | inl less ↦ rw (get_or_append_left levels (more.lists ∷ []) [] k (let b = all.count in omega arith))
+                  (λ h. ((all.each k less).each v (let t = (all.each k less).total in omega arith)).some)
+              | inr ge ↦
+                  let e : sizes ≡ k = (let a = length-append levels (more.lists ∷ []) in let b = all.count in omega arith) in
+                  subst (λ (j : ℕ). v < length (get_or (levels ++ more.lists ∷ []) j []) → AreSomeRows tau settled v (λ n. n ≡ j)
+                  (get_or (get_or (levels ++ more.lists ∷ []) j []) v [])) e
+                  (rw (get_or_push levels more.lists [] sizes all.count) (more.each v))
+            ];
       }) (rw (total_level levels more.lists) (let m = more.more in omega arith))

@@ -40,7 +40,8 @@ module _ (lists : List (List TripOf)) where
     pub empty : AreEmpty lists from v
     pub next : AreNext lists (v + 1) rest end
 
-  pub next_first : (from n : ℕ) (vs : List ℕ) (end : ℕ) → AreNext lists from (drop n vs) end → n < length vs → IsFirst from (get_or vs n 0) end (drop (n + 1) vs)
+  pub next_first : (from n : ℕ) (vs : List ℕ) (end : ℕ) → AreNext lists from (drop n vs) end → n < length vs →
+      IsFirst from (get_or vs n 0) end (drop (n + 1) vs)
   unfolding AreNext
   next_first from n vs end next lt = search (rules, add-one, drop-cons)
 

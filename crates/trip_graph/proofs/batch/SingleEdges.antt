@@ -1,6 +1,52 @@
 -- The edges between vehicles and riders are the rows of one rider.
-use Rattle.std.proofs.Common.{◌≡◌, ℕ, zero, suc, ◌+◌, ◌<◌, ◌≤◌, inl, inr, List, [], ◌∷◌, ◌++◌, length, get_or, map, take, refl, sym, ap, ◌∙◌, subst, arith, add-one}
-use Rattle.trip_graph.proofs.Common.{cases_lt, length-map, get_or-map, get_or_default, map-append, take_more, RvEdge, IsRvGraph, no_edge, Settled, CanServe, IsRvEdge, TripOf, AreRowsOfSize, ComesBefore, trips_of, HasOneRider, edges_upto, single_edge, AreLevelsUpTo}
+use Rattle.std.proofs.Common.{
+  ◌≡◌,
+  ℕ,
+  zero,
+  suc,
+  ◌+◌,
+  ◌<◌,
+  ◌≤◌,
+  inl,
+  inr,
+  List,
+  [],
+  ◌∷◌,
+  ◌++◌,
+  length,
+  get_or,
+  map,
+  take,
+  refl,
+  sym,
+  ap,
+  ◌∙◌,
+  subst,
+  arith,
+  add-one,
+}
+use Rattle.trip_graph.proofs.Common.{
+  cases_lt,
+  length-map,
+  get_or-map,
+  get_or_default,
+  map-append,
+  take_more,
+  RvEdge,
+  IsRvGraph,
+  no_edge,
+  Settled,
+  CanServe,
+  IsRvEdge,
+  TripOf,
+  AreRowsOfSize,
+  ComesBefore,
+  trips_of,
+  HasOneRider,
+  edges_upto,
+  single_edge,
+  AreLevelsUpTo,
+}
 use Rattle.std.specs.List.{All}
 use Rattle.std.proofs.lemmas.List.{append-nil, append_assoc, take_all}
 use Rattle.trip_graph.proofs.lemmas.vehicle.TripSearch.{one_rider}
@@ -94,7 +140,8 @@ module _ (tau : ℕ → ℕ → ℕ) (settled : Settled) where
         let lt : k < length rows = omega arith in
         let row = get_or rows k no_trip in
         let ys = xs ++ map (single_edge v) (take k rows) in
-        let skipped = lists_skipped RvEdge pair_of entry no_edge (IsRvEdge tau settled) v (from k) (rider_at k) ys (from_low k lt) (none_between k lt) (lists_rows xs l k (omega arith)) in
+        let skipped = lists_skipped RvEdge pair_of entry no_edge (IsRvEdge tau settled) v (from k) (rider_at k) ys (from_low k lt) (none_between k lt)
+        (lists_rows xs l k (omega arith)) in
         let taken = lists_taken RvEdge pair_of entry no_edge (IsRvEdge tau settled) v (rider_at k) ys (single_edge v row) refl refl (is_edge k lt) skipped in
         let more : take (k + 1) rows ≡ take k rows ++ row ∷ [] = take_more rows k no_trip lt in
         let longer : xs ++ map (single_edge v) (take (suc k) rows) ≡ ys ++ single_edge v row ∷ [] =
@@ -113,7 +160,8 @@ module _ (tau : ℕ → ℕ → ℕ) (settled : Settled) where
         lists_next RvEdge pair_of entry no_edge (IsRvEdge tau settled) v n (xs ++ map (single_edge v) rows)
         (λ r e. let under = e.riders.within 0 0 (omega arith) in omega arith) skipped
 
-  lists_upto : (lists : List (List TripOf)) (count : ℕ) → ((v : ℕ) → v < count → AreRowsOfSize tau settled v 1 (get_or lists v [])) → Lists count 0 (edges_upto lists count)
+  lists_upto : (lists : List (List TripOf)) (count : ℕ) → ((v : ℕ) → v < count → AreRowsOfSize tau settled v 1 (get_or lists v [])) →
+      Lists count 0 (edges_upto lists count)
   lists_upto lists zero each = lists_none RvEdge pair_of entry no_edge (IsRvEdge tau settled)
   lists_upto lists (suc v) each =
       let rows = get_or lists v [] in
@@ -121,7 +169,8 @@ module _ (tau : ℕ → ℕ → ℕ) (settled : Settled) where
       lists_vehicle v rows (each v (omega arith)) (edges_upto lists v) (lists_upto lists v (λ w lt. each w (omega arith))) in
       rw add-one at more
 
-  pub rv_of_singles : (lists : List (List TripOf)) → AreLevelsUpTo tau settled 1 (length settled.vehicles) lists → IsRvGraph tau settled (edges_upto lists (length lists))
+  pub rv_of_singles : (lists : List (List TripOf)) → AreLevelsUpTo tau settled 1 (length settled.vehicles) lists →
+      IsRvGraph tau settled (edges_upto lists (length lists))
   rv_of_singles lists level =
       let n = length settled.vehicles in
       let all = lists_upto lists n level.each in
@@ -133,7 +182,8 @@ module _ (tau : ℕ → ℕ → ℕ) (settled : Settled) where
       })
 
 -- the rows of the level have one rider each
-pub have_one : (tau : ℕ → ℕ → ℕ) (settled : Settled) (count : ℕ) (lists : List (List TripOf)) → AreLevelsUpTo tau settled 1 count lists → All (λ (rows : List TripOf). All HasOneRider rows) lists
+pub have_one : (tau : ℕ → ℕ → ℕ) (settled : Settled) (count : ℕ) (lists : List (List TripOf)) → AreLevelsUpTo tau settled 1 count lists →
+    All (λ (rows : List TripOf). All HasOneRider rows) lists
 have_one tau settled count lists level k d lt =
     let own = level.each k (let e = level.total in omega arith) in
     subst (λ (rows : List TripOf). All HasOneRider rows) (get_or_default lists k [] d lt) own.some.sized

@@ -1,5 +1,55 @@
-use Rattle.std.proofs.Common.{rules, ◌≡◌, ℕ, zero, suc, ⊎_elim, inr, Option, Some, None, ◌<◌, ◌≤◌, min, List, [], ◌∷◌, length, map, get_or, refl, sym, ap, ◌∙◌, subst, arith, eqb, Bool, true, false}
-use Rattle.trip_graph.proofs.Common.{get_or_default, All-nil, Settled, Task, IsTask, IsLeg, IsServable, IsLeastDelay, Serves, no_leg, IsTrip, IsRrEdge, pair_task, trip_task, IsRvEdge, rider_at, no_rider, no_vehicle, greatest}
+use Rattle.std.proofs.Common.{
+  rules,
+  ◌≡◌,
+  ℕ,
+  zero,
+  suc,
+  ⊎_elim,
+  inr,
+  Option,
+  Some,
+  None,
+  ◌<◌,
+  ◌≤◌,
+  min,
+  List,
+  [],
+  ◌∷◌,
+  length,
+  map,
+  get_or,
+  refl,
+  sym,
+  ap,
+  ◌∙◌,
+  subst,
+  arith,
+  eqb,
+  Bool,
+  true,
+  false,
+}
+use Rattle.trip_graph.proofs.Common.{
+  get_or_default,
+  All-nil,
+  Settled,
+  Task,
+  IsTask,
+  IsLeg,
+  IsServable,
+  IsLeastDelay,
+  Serves,
+  no_leg,
+  IsTrip,
+  IsRrEdge,
+  pair_task,
+  trip_task,
+  IsRvEdge,
+  rider_at,
+  no_rider,
+  no_vehicle,
+  greatest,
+}
 use Rattle.std.proofs.lemmas.Bool.Decides.{nat_tests, Decides-eqb}
 use Rattle.stop_orders.specs.declared.task.stop.Stop.{Stop}
 use Rattle.stop_orders.specs.declared.task.stop.Stop.TheVariants.{Pick, Drop, Alight}
@@ -12,7 +62,8 @@ use Rattle.stop_orders.specs.task.Sound.{IsSound}
 use Rattle.trip_graph.specs.work.pairs.RrGraph.{IsTaskOfFirst}
 
 -- what is read of a rider is what stands at its number
-pub rider_read : (settled : Settled) (riders : List SettledRider) (r : ℕ) (x : SettledRider) → riders ≡ settled.riders → r < length settled.riders → get_or riders r x ≡ rider_at settled r
+pub rider_read : (settled : Settled) (riders : List SettledRider) (r : ℕ) (x : SettledRider) → riders ≡ settled.riders → r < length settled.riders →
+    get_or riders r x ≡ rider_at settled r
 rider_read settled riders r x e h = ap (λ (v : List SettledRider). get_or v r x) e ∙ get_or_default settled.riders r x no_rider h
 
 self_eq : (i : ℕ) → eqb i i ≡ true
@@ -45,7 +96,8 @@ pair_needs_seats tau settled place a b (stops, s) = by_stops stops s
         let p = first_is_pick 2 x xs s.order in
         by_pick p.0 xs p.1 (subst (λ (v : Stop). Serves tau (pair_task settled place a b) (v ∷ xs)) p.2 s)
 
-greatest_least : (most : ℕ) (vs : List SettledVehicle) → ((v : ℕ) → v < length vs → (get_or vs v no_vehicle).seats ≤ most) → greatest (map (λ v. v.seats) vs) ≤ most
+greatest_least : (most : ℕ) (vs : List SettledVehicle) → ((v : ℕ) → v < length vs → (get_or vs v no_vehicle).seats ≤ most) →
+    greatest (map (λ v. v.seats) vs) ≤ most
 greatest_least most [] h = omega arith
 greatest_least most (x ∷ xs) h =
     let first = h 0 (omega arith) in
@@ -70,7 +122,8 @@ pair_valid points tau settled place a b sound h k seats there =
       start = there;
       ready = sound.now;
       dwell = task.dwell;
-      seats = subst (λ (v : ℕ). v ≤ 10) (sym sound.most_seats) (greatest_least 10 settled.vehicles (λ v lt. ((sound.each v lt).tasks [] none (omega arith)).seats));
+      seats = subst (λ (v : ℕ). v ≤ 10) (sym sound.most_seats) (greatest_least 10 settled.vehicles
+          (λ v lt. ((sound.each v lt).tasks [] none (omega arith)).seats));
       seated = omega arith;
       passenger_count = omega arith;
       rider_count = omega arith;
@@ -79,7 +132,8 @@ pair_valid points tau settled place a b sound h k seats there =
     }
 
 -- the task of a pair stays one wherever its vehicle is put
-pub put_at : (settled : Settled) (task : Task) (place a b : ℕ) → task ≡ pair_task settled task.start a b → record task { start = place } ≡ pair_task settled place a b
+pub put_at : (settled : Settled) (task : Task) (place a b : ℕ) → task ≡ pair_task settled task.start a b →
+    record task { start = place } ≡ pair_task settled place a b
 put_at settled task place a b is = ap (λ (t : Task). record t { start = place }) is
 
 -- .. and is a task of the pair then
@@ -125,7 +179,8 @@ rv_answer tau settled v r false h k never = λ e. never e.servable
 -- the same of the second start, where the first serves no order
 pub rr_answer : (tau : ℕ → ℕ → ℕ) (settled : Settled) (a b : ℕ) (answer : Bool) → a < b → b < length settled.riders
     → (IsServable tau (pair_task settled (rider_at settled a).leg.origin a b) → ⊥)
-    → MatchBool answer (IsServable tau (pair_task settled (rider_at settled b).leg.origin a b)) (IsServable tau (pair_task settled (rider_at settled b).leg.origin a b) → ⊥)
+    → MatchBool answer (IsServable tau (pair_task settled (rider_at settled b).leg.origin a b))
+    (IsServable tau (pair_task settled (rider_at settled b).leg.origin a b) → ⊥)
     → MatchBool answer (IsRrEdge tau settled a b) (IsRrEdge tau settled a b → ⊥)
 rr_answer tau settled a b true h k never s = record { below = h; within = k; servable = inr s }
 rr_answer tau settled a b false h k never no_order = no_edge_from tau settled a b never no_order

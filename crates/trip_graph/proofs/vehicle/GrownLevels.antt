@@ -1,8 +1,44 @@
 use Rattle.std.proofs.Common.{◌≡◌, ℕ, ◌+◌, ◌<◌, ◌≤◌, ◌⊎◌, inl, inr, List, [], ◌∷◌, ◌++◌, length, take, refl, sym, ap, ◌∙◌, subst, arith, ⊎_elim, get_or, rules}
-use Rattle.trip_graph.proofs.Common.{length-map, map_push, get_or-map, get_or_default, get_or_append_left, get_or_push, length_push, get_or_past, cases_lt, cases_order, All-push, All-nil, Contains-append_left, Contains-push, IsLower, ComesBefore, IsRising, trips_of, IsLevelRow, IsLevel, IsLevelUpTo, IsTripRule, TripOf}
+use Rattle.trip_graph.proofs.Common.{
+  length-map,
+  map_push,
+  get_or-map,
+  get_or_default,
+  get_or_append_left,
+  get_or_push,
+  length_push,
+  get_or_past,
+  cases_lt,
+  cases_order,
+  All-push,
+  All-nil,
+  Contains-append_left,
+  Contains-push,
+  IsLower,
+  ComesBefore,
+  IsRising,
+  trips_of,
+  IsLevelRow,
+  IsLevel,
+  IsLevelUpTo,
+  IsTripRule,
+  TripOf,
+}
 use Rattle.std.specs.List.{Contains, remove}
 use Rattle.std.proofs.lemmas.List.{append-nil, take_at, length-take-le}
-use Rattle.trip_graph.proofs.lemmas.vehicle.TripOrder.{lower_irrefl, lower_trans, lower_asym, lower_append, lower_front, lower_back, lower_last, lower_longer, lower_raise, squeeze, front_and_last}
+use Rattle.trip_graph.proofs.lemmas.vehicle.TripOrder.{
+  lower_irrefl,
+  lower_trans,
+  lower_asym,
+  lower_append,
+  lower_front,
+  lower_back,
+  lower_last,
+  lower_longer,
+  lower_raise,
+  squeeze,
+  front_and_last,
+}
 
 -- the trips of the size below, in order, with each that can be served
 pub record AreBelow (Serves : List ℕ → Type 0) (size : ℕ) (ts : List (List ℕ)) : Type 0 where
@@ -82,11 +118,13 @@ module _ (riders : ℕ) (Serves : List ℕ → Type 0) (Costs : List ℕ → ℕ
             (rw is (lower_last p b (b + 1) (omega arith)));
         rising = rw (map_push f rows row) (rising_push (trips_of rows) row.riders.items h.rising (λ i lt.
             let within : i < length rows = (let e = length-map rows f in omega arith) in
-            rw (get_or-map f rows i row [] within) (subst (λ (v : List ℕ). ComesBefore (get_or rows i row).riders.items v) (sym is) (inr (h.sized i row within ∙ sym longer, h.lower i row within)))));
+            rw (get_or-map f rows i row [] within) (subst (λ (v : List ℕ). ComesBefore (get_or rows i row).riders.items v) (sym is)
+            (inr (h.sized i row within ∙ sym longer, h.lower i row within)))));
         whole = λ t e s low. rw (map_push f rows row) (elim (lower_back p t (b + 1) e low) as (λ _. Contains (trips_of rows ++ row.riders.items ∷ []) t) [
           | inl w ↦ Contains-append_left (trips_of rows) (row.riders.items ∷ []) t (h.whole t e s (lower_longer t p (b ∷ []) w))
           | inr w ↦ elim (cases_lt w.0 b) as (λ _. Contains (trips_of rows ++ row.riders.items ∷ []) t) [
-            | inl lt ↦ Contains-append_left (trips_of rows) (row.riders.items ∷ []) t (h.whole t e s (subst (λ (v : List ℕ). IsLower v (p ++ b ∷ [])) (sym w.1) (lower_last p w.0 b lt)))
+            | inl lt ↦ Contains-append_left (trips_of rows) (row.riders.items ∷ []) t (h.whole t e s
+                (subst (λ (v : List ℕ). IsLower v (p ++ b ∷ [])) (sym w.1) (lower_last p w.0 b lt)))
             | inr ge ↦
                 let last : w.0 ≡ b = (let lt = w.2 in omega arith) in
                 let same : t ≡ row.riders.items = w.1 ∙ ap (λ (v : ℕ). p ++ v ∷ []) last ∙ sym is in
@@ -126,7 +164,8 @@ module _ (riders : ℕ) (Serves : List ℕ → Type 0) (Costs : List ℕ → ℕ
         let is = front_and_last t (m + 1) (omega arith) in
         let short : length (take (m + 1) t) ≡ m + 1 = length-take-le (m + 1) t (omega arith) in
         let whole : Serves (take (m + 1) t ++ get_or t (m + 1) 0 ∷ []) = subst Serves is s in
-        let front = rule.without (take (m + 1) t ++ get_or t (m + 1) 0 ∷ []) (length (take (m + 1) t)) whole (omega (arith, length_push (take (m + 1) t) (get_or t (m + 1) 0))) in
+        let front = rule.without (take (m + 1) t ++ get_or t (m + 1) 0 ∷ []) (length (take (m + 1) t)) whole
+        (omega (arith, length_push (take (m + 1) t) (get_or t (m + 1) 0))) in
         let at = place_of Serves (m + 1) ts b (take (m + 1) t) short (subst Serves (remove_last (take (m + 1) t) (get_or t (m + 1) 0)) front) in
         (at.0, get_or t (m + 1) 0, at.1, is ∙ ap (λ (v : List ℕ). v ++ get_or t (m + 1) 0 ∷ []) (sym at.2))
 
@@ -192,7 +231,8 @@ module _ (riders : ℕ) (Serves : List ℕ → Type 0) (Costs : List ℕ → ℕ
         let after = order_from_lower Serves (m + 1) ts b j at.0 jn at.1 (rw (at_j, at.2) (lower_last q x d above)) in
         let room : j + 1 < length ts = (let lt = at.1 in omega arith) in
         let first : IsLower (q ++ x ∷ []) (get_or ts (j + 1) []) = rw (sym at_j) (lower_from_order Serves (m + 1) ts b j (j + 1) (omega arith) room) in
-        let upto : IsLower (get_or ts (j + 1) []) (q ++ d ∷ []) ⊎ (get_or ts (j + 1) [] ≡ q ++ d ∷ []) = elim (cases_lt (j + 1) at.0) as (λ _. IsLower (get_or ts (j + 1) []) (q ++ d ∷ []) ⊎ (get_or ts (j + 1) [] ≡ q ++ d ∷ [])) [
+        let upto : IsLower (get_or ts (j + 1) []) (q ++ d ∷ []) ⊎ (get_or ts (j + 1) [] ≡ q ++ d ∷ []) =
+        elim (cases_lt (j + 1) at.0) as (λ _. IsLower (get_or ts (j + 1) []) (q ++ d ∷ []) ⊎ (get_or ts (j + 1) [] ≡ q ++ d ∷ [])) [
           | inl lt ↦ inl (rw (sym at.2) (lower_from_order Serves (m + 1) ts b (j + 1) at.0 lt at.1))
           | inr ge ↦ inr (let same : j + 1 ≡ at.0 = omega arith in subst (λ (v : ℕ). get_or ts v [] ≡ q ++ d ∷ []) (sym same) at.2)
         ] in

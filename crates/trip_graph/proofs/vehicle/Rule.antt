@@ -17,7 +17,12 @@ last_two_rise front a b up =
     let first : length front < length (front ++ a ∷ []) = omega arith in
     let second : length (front ++ a ∷ []) ≡ length front + 1 = n in
     let h = up (length front) (omega arith) in
-    rw (get_or_append_left (front ++ a ∷ []) (b ∷ []) 0 (length front) first, get_or_push front a 0 (length front) refl, get_or_push (front ++ a ∷ []) b 0 (length front + 1) second) at h
+    rw (
+      get_or_append_left (front ++ a ∷ []) (b ∷ []) 0 (length front) first,
+      get_or_push front a 0 (length front) refl,
+      get_or_push (front ++ a ∷ []) b 0
+          (length front + 1) second,
+    ) at h
 
 -- the law on smaller trips, in the form that growth uses
 pub rule_of : SubTripsAreServable → (points : ℕ) (tau : ℕ → ℕ → ℕ) (settled : Settled) (v : ℕ) → IsTravelTime points tau → IsSound 6 points tau settled

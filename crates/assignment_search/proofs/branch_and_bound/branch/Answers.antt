@@ -10,4 +10,5 @@ grow-found-requires-clause-tree c =
     let tree = c.in_ok-tree.tree in
     let made = c.in_ok-tree.ensures in
     subst (λ (n : ℕ). IsTreeSoFar g n (cost_of g c.args.first) tree.nodes.items tree.values.items) (sym made.budget)
-    (so_far_start g c.args.budget (cost_of g c.args.first) root.multipliers root.value tree.nodes.items tree.values.items c.requires.budget c.requires.leaf made.nodes made.values)
+    (so_far_start g c.args.budget (cost_of g c.args.first) root.multipliers root.value tree.nodes.items tree.values.items c.requires.budget c.requires.leaf
+    made.nodes made.values)

@@ -21,17 +21,20 @@ loop-plan-init c =
     }
 
 pub first-place-requires-clause-leaf : goal.first-place-requires-clause-leaf
-first-place-requires-clause-leaf c = so_far_leaf c.args.graph.now c.args.tree.now.budget c.cost_of-limit.result c.loop-plan.tree.nodes.items c.loop-plan.tree.values.items c.requires.good c.loop-plan.invariant.tree
+first-place-requires-clause-leaf c = so_far_leaf c.args.graph.now c.args.tree.now.budget c.cost_of-limit.result c.loop-plan.tree.nodes.items
+    c.loop-plan.tree.values.items c.requires.good c.loop-plan.invariant.tree
 
 pub bound_at-bound-requires-clause-small : goal.bound_at-bound-requires-clause-small
 bound_at-bound-requires-clause-small c =
     let t = c.loop-plan.invariant.tree in
-    lowest_small c.args.graph.now t.low c.cost_of-limit.result c.loop-plan.tree.nodes.items c.loop-plan.tree.values.items c.first-place.result t.grown c.first-place.ensures.lowest
+    lowest_small c.args.graph.now t.low c.cost_of-limit.result c.loop-plan.tree.nodes.items c.loop-plan.tree.values.items c.first-place.result t.grown
+    c.first-place.ensures.lowest
 
 pub next-requires-clause-grown : goal.next-requires-clause-grown
 next-requires-clause-grown c = (
   c.cost_of-limit.result,
-  so_far_raised c.args.graph.now c.args.tree.now.budget c.cost_of-limit.result c.loop-plan.tree.nodes.items c.loop-plan.tree.values.items c.first-place.result c.loop-plan.invariant.tree c.first-place.ensures.lowest,
+  so_far_raised c.args.graph.now c.args.tree.now.budget c.cost_of-limit.result c.loop-plan.tree.nodes.items c.loop-plan.tree.values.items c.first-place.result
+      c.loop-plan.invariant.tree c.first-place.ensures.lowest,
 )
 
 pub loop-plan-smaller-in-Continue-branch-3 : goal.loop-plan-smaller-in-Continue-branch-3
@@ -39,8 +42,10 @@ loop-plan-smaller-in-Continue-branch-3 c =
     let nodes : List Node = c.loop-plan.tree.nodes.items in
     let ends = c.in-Parted.ends in
     let p = c.first-place.result in
-    let said = subst (IsNext c.args.graph.now nodes c.loop-plan.tree.values.items p c.loop-plan.limit c.loop-plan.tree.budget) c.in-Parted.is c.in_ok-ends.ensures in
-    let size = ap (λ (xs : List Node). length xs) c.in_ok-grow-in-Parted.ensures.nodes ∙ edit_length nodes p (Branch ends.vehicle ends.row) ends.first.node ends.second.node c.first-place.ensures.lowest.within in
+    let said = subst (IsNext c.args.graph.now nodes c.loop-plan.tree.values.items p c.loop-plan.limit c.loop-plan.tree.budget) c.in-Parted.is
+    c.in_ok-ends.ensures in
+    let size = ap (λ (xs : List Node). length xs) c.in_ok-grow-in-Parted.ensures.nodes ∙ edit_length nodes p (Branch ends.vehicle ends.row) ends.first.node
+    ends.second.node c.first-place.ensures.lowest.within in
     omega (arith, size, said.1, c.loop-plan.invariant.budget)
 
 pub loop-plan-preserved-in-Continue-branch-3 : goal.loop-plan-preserved-in-Continue-branch-3
@@ -58,7 +63,9 @@ loop-plan-preserved-in-Continue-branch-3 c =
       held = inv.held;
       greedy = inv.greedy;
       budget = grown.budget ∙ inv.budget;
-      tree = so_far_grow c.args.graph.now c.args.tree.now.budget c.cost_of-limit.result old.nodes.items old.values.items p c.in-Parted.ends new.nodes.items new.values.items inv.tree c.first-place.ensures.lowest (said.0) (omega (arith, said.1, inv.budget)) (omega (arith, ints, inv.under, said.2)) grown.nodes grown.values;
+      tree = so_far_grow c.args.graph.now c.args.tree.now.budget c.cost_of-limit.result old.nodes.items old.values.items p c.in-Parted.ends new.nodes.items
+          new.values.items inv.tree c.first-place.ensures.lowest (said.0) (omega (arith, said.1, inv.budget)) (omega (arith, ints, inv.under, said.2))
+          grown.nodes grown.values;
       leaves = grown.leaves;
     }
 
@@ -70,7 +77,8 @@ returns-in-Fixed c =
     let p = c.first-place.result in
     let fixed = subst (IsNext c.args.graph.now nodes values p c.loop-plan.limit c.loop-plan.tree.budget) c.in-Fixed.is c.in_ok-ends.ensures in
     let made = c.found_of-in-Fixed.ensures in
-    answer_met c.args.graph.now c.args.tree.now.budget c.cost_of-limit.result p nodes values c.requires.good inv.tree c.first-place.ensures.lowest inv.held inv.greedy c.in-Fixed.best (fixed.0) c.found_of-in-Fixed.result made.plan made.cost
+    answer_met c.args.graph.now c.args.tree.now.budget c.cost_of-limit.result p nodes values c.requires.good inv.tree c.first-place.ensures.lowest inv.held
+    inv.greedy c.in-Fixed.best (fixed.0) c.found_of-in-Fixed.result made.plan made.cost
     (made.bound ∙ to_z-of_z w128 _ (record { sfits = c.bound_at-bound.type_inv }) ∙ c.bound_at-bound.ensures) made.tree (fixed.1)
 
 pub returns-in-Met : goal.returns-in-Met
@@ -81,8 +89,10 @@ returns-in-Met c =
     let p = c.first-place.result in
     let reached = subst (IsNext c.args.graph.now nodes values p c.loop-plan.limit c.loop-plan.tree.budget) c.in-Met.is c.in_ok-ends.ensures in
     let made = c.found_of.ensures in
-    answer_met c.args.graph.now c.args.tree.now.budget c.cost_of-limit.result p nodes values c.requires.good inv.tree c.first-place.ensures.lowest inv.held inv.greedy c.loop-plan.plan inv.lawful c.found_of.result made.plan made.cost
-    (made.bound ∙ to_z-of_z w128 _ (record { sfits = c.bound_at-bound.type_inv }) ∙ c.bound_at-bound.ensures) made.tree (omega (arith, ints, inv.costs, reached))
+    answer_met c.args.graph.now c.args.tree.now.budget c.cost_of-limit.result p nodes values c.requires.good inv.tree c.first-place.ensures.lowest inv.held
+    inv.greedy c.loop-plan.plan inv.lawful c.found_of.result made.plan made.cost
+    (made.bound ∙ to_z-of_z w128 _ (record { sfits = c.bound_at-bound.type_inv }) ∙ c.bound_at-bound.ensures) made.tree
+    (omega (arith, ints, inv.costs, reached))
 
 pub returns-in-Full : goal.returns-in-Full
 returns-in-Full c =
@@ -99,5 +109,7 @@ returns-in-Full c =
       change = c.in_ok-best-in-Full.ensures.best;
     } in
     let made = c.found_of-in-Full.ensures in
-    answer_full c.args.graph.now c.args.tree.now.budget c.cost_of-limit.result p nodes values c.requires.good inv.tree c.first-place.ensures.lowest inv.held inv.greedy best c.in_ok-best-in-Full.ensures.lawful c.found_of-in-Full.result made.plan made.cost
-    (made.bound ∙ to_z-of_z w128 _ (record { sfits = c.bound_at-bound.type_inv }) ∙ c.bound_at-bound.ensures) made.tree near (omega (arith, spent.0, inv.budget), omega (arith, spent.1, inv.budget))
+    answer_full c.args.graph.now c.args.tree.now.budget c.cost_of-limit.result p nodes values c.requires.good inv.tree c.first-place.ensures.lowest inv.held
+    inv.greedy best c.in_ok-best-in-Full.ensures.lawful c.found_of-in-Full.result made.plan made.cost
+    (made.bound ∙ to_z-of_z w128 _ (record { sfits = c.bound_at-bound.type_inv }) ∙ c.bound_at-bound.ensures) made.tree near
+    (omega (arith, spent.0, inv.budget), omega (arith, spent.1, inv.budget))

@@ -9,4 +9,9 @@ loop-number-preserved c =
     let fits : SFits w64 (get_or xs i (pos 0)) = search rules in
     let modest = c.requires.modest i in
     let more = int_sum_more i (λ r. get_or xs r (pos 0)) in
-    record { value = omega (arith, ints, more, fits, modest.low, modest.high); low = omega (arith, ints, fits, modest.low, modest.high); high = omega (arith, ints, fits, modest.low, modest.high) }
+    record {
+      value = omega (arith, ints, more, fits, modest.low, modest.high);
+      low = omega (arith, ints, fits, modest.low, modest.high);
+      high =
+          omega (arith, ints, fits, modest.low, modest.high);
+    }

@@ -16,6 +16,8 @@ loop-vehicle-preserved c =
     let long : length xs ≡ n = omega (arith, c.loop-vehicle.invariant.len, c.loop-vehicle.costs.ok.0) in
     record {
       len = omega (arith, c.in_ok-push.ensures.len, c.loop-vehicle.invariant.len);
-      value = λ v l. subst (λ (ys : List ℤ). get_or ys v (pos 0) ≡ least_cost g u v) (sym items) (push_all (λ w y. y ≡ least_cost g u w) xs n z long c.loop-vehicle.invariant.value c.least_cost_by.ensures.value v l);
-      cost = λ v l. subst (λ (ys : List ℤ). IsCost (get_or ys v (pos 0))) (sym items) (push_all (λ w y. IsCost y) xs n z long c.loop-vehicle.invariant.cost c.least_cost_by.ensures.cost v l);
+      value = λ v l. subst (λ (ys : List ℤ). get_or ys v (pos 0) ≡ least_cost g u v) (sym items)
+          (push_all (λ w y. y ≡ least_cost g u w) xs n z long c.loop-vehicle.invariant.value c.least_cost_by.ensures.value v l);
+      cost = λ v l. subst (λ (ys : List ℤ). IsCost (get_or ys v (pos 0))) (sym items) (push_all (λ w y. IsCost y) xs n z long c.loop-vehicle.invariant.cost
+          c.least_cost_by.ensures.cost v l);
     }

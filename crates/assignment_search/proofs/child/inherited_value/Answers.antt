@@ -16,6 +16,7 @@ returns-then-is_small c =
     subst (IsJudged g w ms) (sym is)
     (record {
       sized = parent.sized;
-      judged = value_moved g u w ms c.args.vehicle c.args.parent.now.value old.result new.result c.requires.vehicle c.requires.apart parent.judged old.ensures.value new.ensures.value;
+      judged = value_moved g u w ms c.args.vehicle c.args.parent.now.value old.result new.result c.requires.vehicle c.requires.apart parent.judged
+          old.ensures.value new.ensures.value;
       small = subst (IsSmallSum 1500) is (c.is_small.ensures c.if-is_small.true);
     })

@@ -11,8 +11,10 @@ returns-clause-leaf c =
     let value : ℤ = c.in_ok-best.best.value in
     let size = length c.rows.result.now in
     let all : allowed ≡ replicate size true = c.in_ok-allowed.ensures.items_if_clones_equal (λ y e. e) in
-    let judged : IsJudged g (usable_of allowed) ms value = subst (λ (xs : List Bool). IsJudged g (usable_of xs) ms value) c.deref-3.ensures.value c.in_ok-best.ensures.judged in
-    let fitted : first_fit_value g (usable_of allowed) ≤ℤ value = subst (λ (xs : List Bool). first_fit_value g (usable_of xs) ≤ℤ value) c.deref-3.ensures.value c.in_ok-best.ensures.first_fit in
+    let judged : IsJudged g (usable_of allowed) ms value = subst (λ (xs : List Bool). IsJudged g (usable_of xs) ms value) c.deref-3.ensures.value
+    c.in_ok-best.ensures.judged in
+    let fitted : first_fit_value g (usable_of allowed) ≤ℤ value = subst (λ (xs : List Bool). first_fit_value g (usable_of xs) ≤ℤ value) c.deref-3.ensures.value
+    c.in_ok-best.ensures.first_fit in
     root_is_good g allowed ms value c.rows.ensures.good
     (λ k l. ap (λ (xs : List Bool). get_or xs k false) all ∙ get_or-replicate size k true false (omega (arith, l, ap length c.rows.ensures.value)))
     judged fitted

@@ -23,4 +23,5 @@ returns-clause-worth c =
     let g = c.args.graph.now in
     let u = usable_of c.args.allowed.now in
     let is : c.of.result ≡ first_fit g u = written _ _ _ _ _ c.of.ensures (c.fit.ensures.len ∙ c.deref_mut.ensures.len) c.fit.ensures.value in
-    subst (λ (ms : List ℤ). leaf_value g u ms ≡ pos 1024 *ℤ int_sum_below g.vehicles (least_cost g u) +ℤ int_sum_below g.riders (multiplier_at ms)) (sym is) (first_fit_value_is g u c.rider_count.ensures.good)
+    subst (λ (ms : List ℤ). leaf_value g u ms ≡ pos 1024 *ℤ int_sum_below g.vehicles (least_cost g u) +ℤ int_sum_below g.riders (multiplier_at ms)) (sym is)
+    (first_fit_value_is g u c.rider_count.ensures.good)

@@ -20,8 +20,10 @@ loop-rider-preserved c =
     let back : to_z w64 (of_z w64 m) ≡ m = to_z-of_z w64 m (record { sfits = c.next_multiplier-next.type_inv }) in
     let low : n < length ms = omega arith in
     record {
-      value = λ r. ap (λ (z : ℤ). multiplier_at (set ms n z) r) back ∙ first_fit_more g u n ms m low c.loop-rider.invariant.value c.next_multiplier-next.ensures.value r;
-      modest = λ r. subst (λ (z : ℤ). IsModest (multiplier_at (set ms n z) r)) (sym back) (set_all (λ _ w. IsModest w) ms n m (pos 0) low c.next_multiplier-next.ensures.modest c.loop-rider.invariant.modest r);
+      value = λ r. ap (λ (z : ℤ). multiplier_at (set ms n z) r) back ∙ first_fit_more g u n ms m low c.loop-rider.invariant.value
+          c.next_multiplier-next.ensures.value r;
+      modest = λ r. subst (λ (z : ℤ). IsModest (multiplier_at (set ms n z) r)) (sym back) (set_all (λ _ w. IsModest w) ms n m (pos 0) low
+          c.next_multiplier-next.ensures.modest c.loop-rider.invariant.modest r);
     }
 
 pub returns-clause-value : goal.returns-clause-value

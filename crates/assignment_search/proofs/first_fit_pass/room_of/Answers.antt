@@ -14,7 +14,8 @@ returns-clause-value c =
     let vehicle : x.vehicle < g.vehicles = omega (arith, good.vehicle, ap (λ (r : TripRow). r.vehicle) read) in
     let least = c.cost_of_vehicle.result in
     let cheapest : least ≡ least_cost g u x.vehicle = c.cost_of_vehicle.ensures ∙ c.requires.costs.value x.vehicle vehicle in
-    let back : to_z w64 (of_z w64 c.room_within.result) ≡ c.room_within.result = to_z-of_z w64 c.room_within.result (record { sfits = c.room_within.type_inv }) in
+    let back : to_z w64 (of_z w64 c.room_within.result) ≡ c.room_within.result = to_z-of_z w64 c.room_within.result
+    (record { sfits = c.room_within.type_inv }) in
     let passed : to_z w64 (of_z w64 least) ≡ least = to_z-of_z w64 least (record { sfits = c.cost_of_vehicle.type_inv }) in
     back ∙ room_from g u c.args.multipliers.now c.args.row x least c.room_within.result read cheapest
     (c.room_within.ensures.value ∙ ap (λ (l : ℤ). pos 1024 *ℤ (pos x.cost -ℤ l) -ℤ multiplier_sum c.args.multipliers.now x.riders.items) passed)

@@ -11,4 +11,9 @@ loop-rider-preserved c =
     let low : i < length xs = omega arith in
     let modest = c.requires.modest (get_or xs i 0) in
     let more = sum_more ms xs i (to_z w64 c.loop-rider.sum-bits) (multiplier_sum ms xs) low c.loop-rider.invariant.value in
-    record { value = omega (arith, ints, more, fits, modest.low, modest.high); low = omega (arith, ints, fits, modest.low, modest.high); high = omega (arith, ints, fits, modest.low, modest.high) }
+    record {
+      value = omega (arith, ints, more, fits, modest.low, modest.high);
+      low = omega (arith, ints, fits, modest.low, modest.high);
+      high =
+          omega (arith, ints, fits, modest.low, modest.high);
+    }

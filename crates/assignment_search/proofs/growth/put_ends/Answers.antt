@@ -27,5 +27,6 @@ returns-clause-values c =
     let low : p < length values = omega (arith, c.requires.place, c.requires.values) in
     c.in_ok-insert-5.ensures.items
     ∙ ap (λ (z : ℤ). insert c.insert-4.new.self.items (p + 2) z) (small_back b c.args.ends.second.small)
-    ∙ ap (λ (xs : List ℤ). insert xs (p + 2) b) (c.in_ok-insert-4.ensures.items ∙ ap (λ (z : ℤ). insert values (p + 1) z) (small_back a c.args.ends.first.small))
+    ∙ ap (λ (xs : List ℤ). insert xs (p + 2) b) (c.in_ok-insert-4.ensures.items ∙ ap (λ (z : ℤ). insert values (p + 1) z)
+    (small_back a c.args.ends.first.small))
     ∙ edit_keep values p a b (pos 0) low

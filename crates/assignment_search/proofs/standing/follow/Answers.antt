@@ -12,7 +12,8 @@ returns-in_ok-enter-in-Branch-clause-next c = λ g usable later e.
 
 pub returns-in_ok-enter-in-Branch-clause-path : goal.returns-in_ok-enter-in-Branch-clause-path
 returns-in_ok-enter-in-Branch-clause-path c = λ g good sound before.
-    let can : CanBranch g (standing_of g c.args.path.now).usable c.in-Branch.vehicle c.in-Branch.row = subst (IsSoundNode g (standing_of g c.args.path.now).usable) c.in-Branch.is sound in
+    let can : CanBranch g (standing_of g c.args.path.now).usable c.in-Branch.vehicle c.in-Branch.row =
+    subst (IsSoundNode g (standing_of g c.args.path.now).usable) c.in-Branch.is sound in
     let low : c.in-Branch.vehicle < g.vehicles = subst (λ (v : ℕ). v < g.vehicles) can.row.row.own (good.rows c.in-Branch.row can.row.row.within).vehicle in
     subst (IsPathOf g) (sym c.in_ok-enter-in-Branch.ensures.ok)
     (path_push g c.args.path.now (record { vehicle = c.in-Branch.vehicle; row = c.in-Branch.row; alone = true }) before (low, can.row.row))

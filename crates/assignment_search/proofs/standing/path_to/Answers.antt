@@ -28,7 +28,8 @@ loop-k-preserved c =
     let next = next_of g nodes (every_row ∷ []) [] (coming_after g w.usable (get_or nodes k Dead) w.later) (suc k) c.requires.sound below after in
     let same : coming_after g (standing_of g old).usable node (standing_of g old).coming ≡ coming_after g w.usable (get_or nodes k Dead) w.later =
     λ i. coming_after g (u_is i) (here i) (l_is i) in
-    let stands : (standing_of g new).usable ∷ (standing_of g new).coming ≡ next.usable ∷ next.later = c.in_ok-follow.ensures.next g next.usable next.later (same ∙ next.here) in
+    let stands : (standing_of g new).usable ∷ (standing_of g new).coming ≡ next.usable ∷ next.later =
+    c.in_ok-follow.ensures.next g next.usable next.later (same ∙ next.here) in
     let sound : IsSoundNode g (standing_of g old).usable node =
     subst (λ (u : Usable). IsSoundNode g u node) (sym u_is) (subst (λ (n : Node). IsSoundNode g w.usable n) (sym here) w.sound) in
     record {

@@ -1,5 +1,46 @@
-use Rattle.std.proofs.Common.{◌≡◌, ◌+◌, ◌<◌, Bool, List, [], ◌∷◌, ◌++◌, Option, ℤ, Some, length, get_or, take, pos, refl, sym, ap, ◌∙◌, subst, arith, to_z, of_z, take_all, unwrap_or}
-use Rattle.bound_checker.proofs.Common.{w128, take_more, Usable, standing_of, every_row, least_leaf, IsTreeOfValue, ReadsTo, places_read, value_read, IsWholeTree, Node, reads_push, coming_of}
+use Rattle.std.proofs.Common.{
+  ◌≡◌,
+  ◌+◌,
+  ◌<◌,
+  Bool,
+  List,
+  [],
+  ◌∷◌,
+  ◌++◌,
+  Option,
+  ℤ,
+  Some,
+  length,
+  get_or,
+  take,
+  pos,
+  refl,
+  sym,
+  ap,
+  ◌∙◌,
+  subst,
+  arith,
+  to_z,
+  of_z,
+  take_all,
+  unwrap_or,
+}
+use Rattle.bound_checker.proofs.Common.{
+  w128,
+  take_more,
+  Usable,
+  standing_of,
+  every_row,
+  least_leaf,
+  IsTreeOfValue,
+  ReadsTo,
+  places_read,
+  value_read,
+  IsWholeTree,
+  Node,
+  reads_push,
+  coming_of,
+}
 use Rattle.std.proofs.lemmas.Int.{to_z-of_z}
 use Rattle.std.proofs.lemmas.Option.{slice_get-get_or}
 use Rattle.plan_rules.specs.Plan.{IsBound}
@@ -30,7 +71,8 @@ loop-place-preserved c =
     let later : List Usable = (standing_of g path).coming in
     let low : i < length nodes = omega (arith, ap length c.nodes-node-items.ensures) in
     let here : node ≡ get_or nodes i node = c.node-item.is ∙ ap (λ (xs : List Node). get_or xs i node) c.nodes-node-items.ensures in
-    let reads : ReadsTo g (every_row ∷ []) (take i nodes) (u ∷ later) = subst (λ (b : Bool). ReadsTo g (every_row ∷ []) (take i nodes) (coming_of g b path)) c.if-walk.false c.loop-place.invariant.reads in
+    let reads : ReadsTo g (every_row ∷ []) (take i nodes) (u ∷ later) = subst (λ (b : Bool). ReadsTo g (every_row ∷ []) (take i nodes) (coming_of g b path))
+    c.if-walk.false c.loop-place.invariant.reads in
     let more : take (i + 1) nodes ≡ take i nodes ++ node ∷ [] = take_more nodes i node low ∙ ap (λ (n : Node). take i nodes ++ n ∷ []) (sym here) in
     let visit = c.in-Ok.ensures.ok in
     let new = c.visit.new.self in
@@ -53,7 +95,8 @@ returns-in-Err-clause-fault c =
     let later : List Usable = (standing_of g path).coming in
     let low : i < length nodes = omega (arith, ap length c.nodes-node-items.ensures) in
     let here : node ≡ get_or nodes i node = c.node-item.is ∙ ap (λ (xs : List Node). get_or xs i node) c.nodes-node-items.ensures in
-    let reads : ReadsTo g (every_row ∷ []) (take i nodes) (u ∷ later) = subst (λ (b : Bool). ReadsTo g (every_row ∷ []) (take i nodes) (coming_of g b path)) c.if-walk.false c.loop-place.invariant.reads in
+    let reads : ReadsTo g (every_row ∷ []) (take i nodes) (u ∷ later) = subst (λ (b : Bool). ReadsTo g (every_row ∷ []) (take i nodes) (coming_of g b path))
+    c.if-walk.false c.loop-place.invariant.reads in
     fault_here g nodes i u later node c.in-Err.fault reads low (slice_get-get_or nodes i node low ∙ ap Some (sym here)) c.in-Err.ensures.err
 
 pub returns-then-walk-clause-fault : goal.returns-then-walk-clause-fault
@@ -61,7 +104,8 @@ returns-then-walk-clause-fault c =
     let g = c.args.graph.now in
     let i = c.loop-place.place in
     record {
-      before = subst (λ (b : Bool). ReadsTo g (every_row ∷ []) (take i c.args.tree.now) (coming_of g b c.loop-place.walk.decisions.items)) c.if-walk.true c.loop-place.invariant.reads;
+      before = subst (λ (b : Bool). ReadsTo g (every_row ∷ []) (take i c.args.tree.now) (coming_of g b c.loop-place.walk.decisions.items)) c.if-walk.true
+          c.loop-place.invariant.reads;
       within = omega (arith, ap length c.nodes-node-items.ensures);
     }
 
@@ -73,7 +117,12 @@ returns-then-not-walk-clause-fault c =
     let path = c.loop-place.walk.decisions.items in
     let whole : take i nodes ≡ nodes = take_all i nodes (omega (arith, ap length c.nodes-node-items.ensures)) in
     let reads = subst (λ (b : Bool). ReadsTo g (every_row ∷ []) (take i nodes) (coming_of g b path)) c.if-not-walk.true c.loop-place.invariant.reads in
-    record { usable = (standing_of g path).usable; later = (standing_of g path).coming; before = subst (λ (xs : List Node). ReadsTo g (every_row ∷ []) xs ((standing_of g path).usable ∷ (standing_of g path).coming)) whole reads }
+    record {
+      usable = (standing_of g path).usable;
+      later = (standing_of g path).coming;
+      before =
+          subst (λ (xs : List Node). ReadsTo g (every_row ∷ []) xs ((standing_of g path).usable ∷ (standing_of g path).coming)) whole reads;
+    }
 
 pub returns-clause-tree : goal.returns-clause-tree
 returns-clause-tree c =
@@ -82,8 +131,10 @@ returns-clause-tree c =
     let i = c.loop-place.place in
     let whole : take i nodes ≡ nodes = take_all i nodes (omega (arith, ap length c.nodes-node-items.ensures)) in
     let back : to_z w128 (of_z w128 c.unwrap_or.result) ≡ c.unwrap_or.result = to_z-of_z w128 c.unwrap_or.result (record { sfits = c.unwrap_or.type_inv }) in
-    let value : to_z w128 (of_z w128 c.unwrap_or.result) ≡ value_read g nodes = back ∙ c.unwrap_or.ensures ∙ ap (λ (o : Option ℤ). unwrap_or o (pos 0)) (c.loop-place.invariant.least ∙ ap (λ (xs : List Node). least_leaf g (places_read g xs)) whole) in
-    let ended : ReadsTo g (every_row ∷ []) (take i nodes) [] = subst (λ (b : Bool). ReadsTo g (every_row ∷ []) (take i nodes) (coming_of g b c.loop-place.walk.decisions.items)) c.if-not-walk.false c.loop-place.invariant.reads in
+    let value : to_z w128 (of_z w128 c.unwrap_or.result) ≡ value_read g nodes = back ∙ c.unwrap_or.ensures ∙
+    ap (λ (o : Option ℤ). unwrap_or o (pos 0)) (c.loop-place.invariant.least ∙ ap (λ (xs : List Node). least_leaf g (places_read g xs)) whole) in
+    let ended : ReadsTo g (every_row ∷ []) (take i nodes) [] = subst (λ (b : Bool). ReadsTo g (every_row ∷ []) (take i nodes)
+    (coming_of g b c.loop-place.walk.decisions.items)) c.if-not-walk.false c.loop-place.invariant.reads in
     let sound : IsWholeTree g nodes = subst (λ (xs : List Node). ReadsTo g (every_row ∷ []) xs []) whole ended in
     subst (IsTreeOfValue g nodes) (sym value) (tree_of_value g nodes sound)
 
@@ -94,7 +145,9 @@ returns-clause-bound c =
     let i = c.loop-place.place in
     let whole : take i nodes ≡ nodes = take_all i nodes (omega (arith, ap length c.nodes-node-items.ensures)) in
     let back : to_z w128 (of_z w128 c.unwrap_or.result) ≡ c.unwrap_or.result = to_z-of_z w128 c.unwrap_or.result (record { sfits = c.unwrap_or.type_inv }) in
-    let value : to_z w128 (of_z w128 c.unwrap_or.result) ≡ value_read g nodes = back ∙ c.unwrap_or.ensures ∙ ap (λ (o : Option ℤ). unwrap_or o (pos 0)) (c.loop-place.invariant.least ∙ ap (λ (xs : List Node). least_leaf g (places_read g xs)) whole) in
-    let ended : ReadsTo g (every_row ∷ []) (take i nodes) [] = subst (λ (b : Bool). ReadsTo g (every_row ∷ []) (take i nodes) (coming_of g b c.loop-place.walk.decisions.items)) c.if-not-walk.false c.loop-place.invariant.reads in
+    let value : to_z w128 (of_z w128 c.unwrap_or.result) ≡ value_read g nodes = back ∙ c.unwrap_or.ensures ∙
+    ap (λ (o : Option ℤ). unwrap_or o (pos 0)) (c.loop-place.invariant.least ∙ ap (λ (xs : List Node). least_leaf g (places_read g xs)) whole) in
+    let ended : ReadsTo g (every_row ∷ []) (take i nodes) [] = subst (λ (b : Bool). ReadsTo g (every_row ∷ []) (take i nodes)
+    (coming_of g b c.loop-place.walk.decisions.items)) c.if-not-walk.false c.loop-place.invariant.reads in
     let sound : IsWholeTree g nodes = subst (λ (xs : List Node). ReadsTo g (every_row ∷ []) xs []) whole ended in
     subst (IsBound g) (sym value) (tree_value_bounds g nodes c.rows.ensures.good sound)

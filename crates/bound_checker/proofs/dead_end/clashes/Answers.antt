@@ -18,12 +18,16 @@ loop-second-preserved c = λ w low high share.
           let k = x.in-Some-sole.other in
           let one : choice_at sole c.args.first ≡ Some j = c.in-Some.is in
           let other : choice_at sole c.loop-second.second ≡ Some k = x.in-Some-sole.is in
-          let first : get_or rows j c.index-rows-one.result ≡ row_at g j = sym c.index-rows-one.is ∙ row_read g rows j c.index-rows-one.result c.rows-rows.ensures.value (c.requires.sole c.args.first j one) c.index-rows-one.is in
-          let second : get_or rows k x.index-rows-other.result ≡ row_at g k = sym x.index-rows-other.is ∙ row_read g rows k x.index-rows-other.result c.rows-rows.ensures.value (c.requires.sole c.loop-second.second k other) x.index-rows-other.is in
+          let first : get_or rows j c.index-rows-one.result ≡ row_at g j = sym c.index-rows-one.is ∙
+          row_read g rows j c.index-rows-one.result c.rows-rows.ensures.value (c.requires.sole c.args.first j one) c.index-rows-one.is in
+          let second : get_or rows k x.index-rows-other.result ≡ row_at g k = sym x.index-rows-other.is ∙
+          row_read g rows k x.index-rows-other.result c.rows-rows.ensures.value (c.requires.sole c.loop-second.second k other) x.index-rows-other.is in
           let riders : c.as_slice-riders.result.now ≡ riders_at g j = c.as_slice-riders.ensures.value ∙ ap (λ (r : TripRow). r.riders.items) first in
           let others : x.as_slice.result.now ≡ riders_at g k = x.as_slice.ensures.value ∙ ap (λ (r : TripRow). r.riders.items) second in
-          let apart : IsApart c.as_slice-riders.result.now x.as_slice.result.now = when_false x.share_a_rider.result _ _ x.if-share_a_rider.false x.share_a_rider.ensures in
-          apart_rows g sole c.args.first c.loop-second.second j k one other (subst (λ (xs : List ℕ). IsApart xs (riders_at g k)) riders (subst (IsApart c.as_slice-riders.result.now) others apart)) now
+          let apart : IsApart c.as_slice-riders.result.now x.as_slice.result.now = when_false x.share_a_rider.result _ _ x.if-share_a_rider.false
+          x.share_a_rider.ensures in
+          apart_rows g sole c.args.first c.loop-second.second j k one other (subst (λ (xs : List ℕ). IsApart xs (riders_at g k)) riders
+          (subst (IsApart c.as_slice-riders.result.now) others apart)) now
       | in_default-sole x ↦ none_second g sole c.args.first c.loop-second.second x.in_default-sole.is now
     ])
     (λ (other : w ≡ c.loop-second.second → ⊥). c.loop-second.invariant w low (omega (arith, high)) share)

@@ -20,12 +20,14 @@ loop-decision-preserved c =
     elim c.if-decision.branch [
       | then-decision w ↦ record {
         len = ap length w.allowed-is ∙ w.keep_alone.ensures.len ∙ c.loop-decision.invariant.len;
-        allowed = λ k l. ap (λ (us : List Bool). get_or us k false) w.allowed-is ∙ along_alone g path i n d c.loop-decision.allowed w.keep_alone.new.allowed (omega arith) w.if-decision.true c.loop-decision.invariant.allowed w.keep_alone.ensures.allowed k l;
+        allowed = λ k l. ap (λ (us : List Bool). get_or us k false) w.allowed-is ∙ along_alone g path i n d c.loop-decision.allowed w.keep_alone.new.allowed
+            (omega arith) w.if-decision.true c.loop-decision.invariant.allowed w.keep_alone.ensures.allowed k l;
       }
       | else-decision w ↦
           let own = c.requires.path i d (omega arith) in
           record {
             len = ap length w.allowed-is ∙ length-set _ _ _ ∙ c.loop-decision.invariant.len;
-            allowed = λ k l. ap (λ (us : List Bool). get_or us k false) w.allowed-is ∙ along_without g path i n d c.loop-decision.allowed (omega arith) w.if-decision.false (omega (arith, own.1.within, c.loop-decision.invariant.len)) c.loop-decision.invariant.allowed k l;
+            allowed = λ k l. ap (λ (us : List Bool). get_or us k false) w.allowed-is ∙ along_without g path i n d c.loop-decision.allowed (omega arith)
+                w.if-decision.false (omega (arith, own.1.within, c.loop-decision.invariant.len)) c.loop-decision.invariant.allowed k l;
           }
     ]

@@ -9,5 +9,6 @@ loop-rider-preserved c =
     let i = c.loop-rider.rider-index in
     let fits : SFits w64 (get_or ms (get_or xs i 0) (pos 0)) = search rules in
     let low : i < length xs = omega arith in
-    let more : multiplier_sum ms (drop i xs) ≡ multiplier_at ms (get_or xs i 0) +ℤ multiplier_sum ms (drop (i + 1) xs) = at_drop_more (multiplier_sum ms) xs i 0 low in
+    let more : multiplier_sum ms (drop i xs) ≡ multiplier_at ms (get_or xs i 0) +ℤ multiplier_sum ms (drop (i + 1) xs) =
+    at_drop_more (multiplier_sum ms) xs i 0 low in
     record { value = omega (arith, ints, more, fits, c.loop-rider.invariant.value); low = omega (arith, ints, fits); high = omega (arith, ints, fits) }

@@ -1,6 +1,95 @@
 -- From what each lane did to the one history in which all of them stand.
-use Rattle.std.proofs.Common.{◌≡◌, ◌≢◌, ℕ, suc, ◌+◌, ◌<◌, ◌≤◌, ◌==◌, Bool, true, false, cond, eqb, is_some, List, [], ◌∷◌, length, map, filter, Option, Some, None, refl, sym, ap, subst, ◌∙◌, inl, inr, arith, All, option_map, slice_index_or}
-use Rattle.dispatch_engine.proofs.Common.{AllByRecursion, enumerate_from, cases_lt, eqb-false, false≢true, nat_tests, Batch, BookView, state_after, RepliesAreSteps, batch_of, sealed_state, step, submit, cancel, report, pickup, dropoff, seal, close, Command, Close, Entry, Reply, Closed, State, Settings, Roads, calls_of, LoggedCall, LockedReply, calls_from, call_of, entry_of, sealed_by, snapshot_after, BookPass, IsFinished, of_lane, IsCloseOf, IsLaneRunFrom, IsLaneRun, last_sealed, IsGoodFor, LaneClosesAreGood, IsGoodClose, ClosesAreGood, IsReady, IsPlain, calls_of_lane, calls_of_pass, HaveRun, IsJointRun}
+use Rattle.std.proofs.Common.{
+  ◌≡◌,
+  ◌≢◌,
+  ℕ,
+  suc,
+  ◌+◌,
+  ◌<◌,
+  ◌≤◌,
+  ◌==◌,
+  Bool,
+  true,
+  false,
+  cond,
+  eqb,
+  is_some,
+  List,
+  [],
+  ◌∷◌,
+  length,
+  map,
+  filter,
+  Option,
+  Some,
+  None,
+  refl,
+  sym,
+  ap,
+  subst,
+  ◌∙◌,
+  inl,
+  inr,
+  arith,
+  All,
+  option_map,
+  slice_index_or,
+}
+use Rattle.dispatch_engine.proofs.Common.{
+  AllByRecursion,
+  enumerate_from,
+  cases_lt,
+  eqb-false,
+  false≢true,
+  nat_tests,
+  Batch,
+  BookView,
+  state_after,
+  RepliesAreSteps,
+  batch_of,
+  sealed_state,
+  step,
+  submit,
+  cancel,
+  report,
+  pickup,
+  dropoff,
+  seal,
+  close,
+  Command,
+  Close,
+  Entry,
+  Reply,
+  Closed,
+  State,
+  Settings,
+  Roads,
+  calls_of,
+  LoggedCall,
+  LockedReply,
+  calls_from,
+  call_of,
+  entry_of,
+  sealed_by,
+  snapshot_after,
+  BookPass,
+  IsFinished,
+  of_lane,
+  IsCloseOf,
+  IsLaneRunFrom,
+  IsLaneRun,
+  last_sealed,
+  IsGoodFor,
+  LaneClosesAreGood,
+  IsGoodClose,
+  ClosesAreGood,
+  IsReady,
+  IsPlain,
+  calls_of_lane,
+  calls_of_pass,
+  HaveRun,
+  IsJointRun,
+}
 use Rattle.std.proofs.lemmas.Bool.{cases_eq, eq-eqb, ne_eqb}
 use Rattle.std.proofs.lemmas.List.Elements.{All-filter, All-from_recursion, recursion_from_All}
 use Rattle.dispatch_engine.proofs.lemmas.lanes.RunLemmas.{filter-mapped}
@@ -22,12 +111,14 @@ plain-quiet nodes wait s command plain = record { sealed = grind arith; last = g
 abbrev IsLast : State → Option Batch → Type 0
 IsLast s last = (b : Batch) → s.sealed ≡ Some b → last ≡ Some b
 
-step-last : (nodes : List ℕ) (wait : ℕ) (s : State) (command : Command) (last : Option Batch) → IsLast s last → IsLast (step nodes wait s command).0 (last_sealed last (snapshot_after (step nodes wait s command).1 (step nodes wait s command).0))
+step-last : (nodes : List ℕ) (wait : ℕ) (s : State) (command : Command) (last : Option Batch) → IsLast s last →
+    IsLast (step nodes wait s command).0 (last_sealed last (snapshot_after (step nodes wait s command).1 (step nodes wait s command).0))
 unfolding step submit cancel report pickup dropoff seal close sealed_state
 step-last nodes wait s command last is b e = grind (arith, is b)
 
 -- a close is answered so where a batch stands sealed
-closed-some : (nodes : List ℕ) (wait : ℕ) (s : State) (batch : ℕ) (outcome : Outcome) → Closed ≡ (step nodes wait s (Close batch outcome)).1 → is_some s.sealed ≡ true
+closed-some : (nodes : List ℕ) (wait : ℕ) (s : State) (batch : ℕ) (outcome : Outcome) → Closed ≡ (step nodes wait s (Close batch outcome)).1 →
+    is_some s.sealed ≡ true
 unfolding step close
 closed-some nodes wait s batch outcome e = grind arith
 
@@ -49,23 +140,39 @@ module _ (settings : Settings) (roads : Roads) where
   plain-close s _ reply plain = tt
 
   -- a close of the lane that seals is good for the batch that stands sealed
-  good-close : (s : State) (command : Command) (reply : Reply) (last : Option Batch) → IsLast s last → IsGoodFor settings roads last command → reply ≡ (step roads.nodes settings.wait s command).1 → IsGoodClose settings roads s command reply
-  good-close s (Close batch outcome) Closed last is good e = (good.0, stands-last s.sealed last good.0 (closed-some roads.nodes settings.wait s batch outcome e) is good.1, good.2)
+  good-close : (s : State) (command : Command) (reply : Reply) (last : Option Batch) → IsLast s last → IsGoodFor settings roads last command →
+      reply ≡ (step roads.nodes settings.wait s command).1 → IsGoodClose settings roads s command reply
+  good-close s (Close batch outcome) Closed last is good e = (
+    good.0,
+    stands-last s.sealed last good.0 (closed-some roads.nodes settings.wait s batch outcome e)
+        is good.1,
+    good.2,
+  )
   good-close s _ _ last is good e = tt
 
-  pub closes-join : (s : State) (last : Option Batch) (es : List Entry) → IsLast s last → RepliesAreSteps roads.nodes settings.wait s es → AllByRecursion IsInZero es → LaneClosesAreGood settings roads last (calls_of_lane 0 (calls_from roads.nodes settings.wait s es)) → ClosesAreGood settings roads s es
+  pub closes-join : (s : State) (last : Option Batch) (es : List Entry) → IsLast s last → RepliesAreSteps roads.nodes settings.wait s es →
+      AllByRecursion IsInZero es → LaneClosesAreGood settings roads last (calls_of_lane 0 (calls_from roads.nodes settings.wait s es)) →
+      ClosesAreGood settings roads s es
   unfolding RepliesAreSteps calls_from ClosesAreGood
   closes-join s last [] is replies zeroth good = tt
   closes-join s last (e ∷ es) is replies zeroth good =
       let next = (step roads.nodes settings.wait s e.command).0 in
       elim (cases_eq e.lane 0) [
         | inl own ↦
-            let here : LaneClosesAreGood settings roads last (call_of next e ∷ calls_of_lane 0 (calls_from roads.nodes settings.wait next es)) = rw (eq-eqb e.lane 0 own) at good in
-            let sealed : IsLast next (last_sealed last (snapshot_after e.reply next)) = rw replies.0 (step-last roads.nodes settings.wait s e.command last is) in
-            (good-close s e.command e.reply last is here.0 replies.0, closes-join next (last_sealed last (snapshot_after e.reply next)) es sealed replies.1 zeroth.1 here.1)
+            let here : LaneClosesAreGood settings roads last (call_of next e ∷ calls_of_lane 0 (calls_from roads.nodes settings.wait next es)) =
+            rw (eq-eqb e.lane 0 own) at good in
+            let sealed : IsLast next (last_sealed last (snapshot_after e.reply next)) = rw replies.0
+            (step-last roads.nodes settings.wait s e.command last is) in (
+              good-close s e.command e.reply last is here.0 replies.0,
+              closes-join next (last_sealed last (snapshot_after e.reply next)) es sealed replies.1
+                  zeroth.1 here.1,
+            )
         | inr other ↦
-            let quiet = plain-quiet roads.nodes settings.wait s e.command (zeroth.0 other) in
-            (plain-close s e.command e.reply (zeroth.0 other), closes-join next last es (λ b f. is b (sym quiet.sealed ∙ f)) replies.1 zeroth.1 (rw (ne_eqb e.lane 0 other) at good))
+            let quiet = plain-quiet roads.nodes settings.wait s e.command (zeroth.0 other) in (
+              plain-close s e.command e.reply (zeroth.0 other),
+              closes-join next last es (λ b f. is b (sym quiet.sealed ∙ f)) replies.1 zeroth.1
+                  (rw (ne_eqb e.lane 0 other) at good),
+            )
       ]
 
 -- the batch of this number, if any, stands sealed
@@ -102,7 +209,8 @@ module _ (nodes : List ℕ) (wait : ℕ) where
       more None cs (ap (option_map (λ b. b.number)) (closes s e.command batch stands run.0)) run.1
 
   -- after a run of lane 0 no batch stands sealed
-  pub ends-closed : (s : State) (pending : Option ℕ) (cs : List Command) (es : List Entry) → Stands s pending → RepliesAreSteps nodes wait s es → AllByRecursion IsInZero es → IsLaneRunFrom pending cs (of_lane 0 es) → (state_after nodes wait s es).sealed ≡ None
+  pub ends-closed : (s : State) (pending : Option ℕ) (cs : List Command) (es : List Entry) → Stands s pending → RepliesAreSteps nodes wait s es →
+      AllByRecursion IsInZero es → IsLaneRunFrom pending cs (of_lane 0 es) → (state_after nodes wait s es).sealed ≡ None
   unfolding RepliesAreSteps state_after
   ends-closed s None cs [] stands replies zeroth run = none-stands s.sealed stands
   ends-closed s (Some batch) cs [] stands replies zeroth run = absurd run
@@ -120,7 +228,8 @@ module _ (nodes : List ℕ) (wait : ℕ) where
   )
 
 -- the entries of a run of plain commands are plain
-plain-run : (cs : List Command) (es : List Entry) → AllByRecursion IsPlain cs → AllByRecursion IsTold es → IsLaneRun cs es → AllByRecursion (λ e. IsPlain e.command) es
+plain-run : (cs : List Command) (es : List Entry) → AllByRecursion IsPlain cs → AllByRecursion IsTold es → IsLaneRun cs es →
+    AllByRecursion (λ e. IsPlain e.command) es
 plain-run [] [] plain told run = tt
 plain-run (c ∷ cs) (e ∷ es) plain told run =
     let here : IsPlain e.command = subst IsPlain (sym run.0) plain.0 in
@@ -145,7 +254,8 @@ beyond-none n lane (e ∷ es) le all =
     grind (arith, nat_tests, beyond-none n lane es le (λ k d lt. all (suc k) d (omega (arith, lt))))
 
 -- the calls of a pass are those of its lane
-calls-cut : (lane n : ℕ) (calls : List (LoggedCall Command LockedReply)) → map (λ p. p.1) (filter (λ p. p.1.lane == lane) (enumerate_from n calls)) ≡ calls_of_lane lane calls
+calls-cut : (lane n : ℕ) (calls : List (LoggedCall Command LockedReply)) → map (λ p. p.1) (filter (λ p. p.1.lane == lane) (enumerate_from n calls)) ≡
+    calls_of_lane lane calls
 calls-cut lane n [] = refl
 calls-cut lane n (c ∷ cs) = grind (arith, nat_tests, calls-cut lane (n + 1) cs)
 
@@ -156,7 +266,8 @@ calls-entries nodes wait s [] = refl
 calls-entries nodes wait s (e ∷ es) = ap (λ l. e ∷ l) (calls-entries nodes wait (step nodes wait s e.command).0 es)
 
 -- passes that ran their lanes' commands ran them in one history
-module _ (settings : Settings) (roads : Roads) (lanes : ℕ → List Command) (start book : BookView) (passes : List BookPass) (ready : IsReady settings roads start) (done : IsFinished start passes book) (run : HaveRun settings roads lanes passes) where
+module _ (settings : Settings) (roads : Roads) (lanes : ℕ → List Command) (start book : BookView) (passes : List BookPass)
+    (ready : IsReady settings roads start) (done : IsFinished start passes book) (run : HaveRun settings roads lanes passes) where
   -- the book is over these roads, with this wait
   over : (P : List ℕ → ℕ → Type 0) → P start.nodes start.wait → P roads.nodes settings.wait
   over P p = subst (λ ns. P ns settings.wait) ready.nodes (subst (λ w. P start.nodes w) ready.wait p)
@@ -187,14 +298,16 @@ module _ (settings : Settings) (roads : Roads) (lanes : ℕ → List Command) (s
   pub joined : IsJointRun settings roads start.state lanes done.since
   joined =
       let told = each-told roads.nodes settings.wait start.state done.since replies in
-      let zeroth : AllByRecursion IsInZero done.since = only-zero done.since (λ k ne. plain-run (lanes k) (of_lane k done.since) (run.plain k ne) (recursion_from_All IsTold _ (All-filter (λ e. e.lane == k) IsTold done.since (All-from_recursion IsTold done.since told))) (ran pass k)) in
+      let zeroth : AllByRecursion IsInZero done.since = only-zero done.since (λ k ne. plain-run (lanes k) (of_lane k done.since) (run.plain k ne)
+      (recursion_from_All IsTold _ (All-filter (λ e. e.lane == k) IsTold done.since (All-from_recursion IsTold done.since told))) (ran pass k)) in
       record {
         lanes = ran pass;
         closes = closes-join settings roads start.state None done.since
             (λ b e. (let no : None ≡ Some b = sym ready.closed ∙ e in absurd cc))
             replies zeroth
             (subst (LaneClosesAreGood settings roads None) (calls-of 0 pass run.some) (run.closes pass));
-        closed = ends-closed roads.nodes settings.wait start.state None (lanes 0) done.since (ap (option_map (λ b. b.number)) ready.closed) replies zeroth (ran pass 0);
+        closed = ends-closed roads.nodes settings.wait start.state None (lanes 0) done.since (ap (option_map (λ b. b.number)) ready.closed) replies zeroth
+            (ran pass 0);
       }
     where
       first : (ps : List BookPass) → 0 < length ps → BookPass

@@ -17,7 +17,8 @@ use Rattle.seat_lock.specs.declared.logged.LoggedCall.{LoggedCall}
 use Rattle.dispatch_engine.specs.lanes.Locked.{sealed_by, snapshot_after, call_of, calls_from, log_of, Fits, snapshot_before}
 
 module _ (nodes : List ℕ) (wait : ℕ) where
-  pub calls-append : (s : State) (es later : List Entry) → calls_from nodes wait s (es ++ later) ≡ calls_from nodes wait s es ++ calls_from nodes wait (state_after nodes wait s es) later
+  pub calls-append : (s : State) (es later : List Entry) → calls_from nodes wait s (es ++ later) ≡ calls_from nodes wait s es ++ calls_from nodes wait
+      (state_after nodes wait s es) later
   unfolding calls_from state_after
   calls-append s [] later = refl
   calls-append s (e ∷ es) later = ap (λ l. call_of (step nodes wait s e.command).0 e ∷ l) (calls-append (step nodes wait s e.command).0 es later)
@@ -28,7 +29,8 @@ module _ (nodes : List ℕ) (wait : ℕ) where
   calls-length s (e ∷ es) = ap suc (calls-length (step nodes wait s e.command).0 es)
 
 -- the batch that a command seals is the one that it would seal
-pub step-snapshot : (nodes : List ℕ) (wait : ℕ) (s : State) (command : Command) → snapshot_after (step nodes wait s command).1 (step nodes wait s command).0 ≡ snapshot_before wait s command
+pub step-snapshot : (nodes : List ℕ) (wait : ℕ) (s : State) (command : Command) → snapshot_after (step nodes wait s command).1 (step nodes wait s command).0 ≡
+    snapshot_before wait s command
 unfolding step
 step-snapshot nodes wait s command = grind arith
 
@@ -56,7 +58,8 @@ abbrev number_of : Option Batch → Option ℕ
 number_of = option_map (λ b. b.number)
 
 -- a reply tells the batch that its command would seal
-pub step-sealed : (nodes : List ℕ) (wait : ℕ) (s : State) (command : Command) → number_of (snapshot_before wait s command) ≡ sealed_by (step nodes wait s command).1
+pub step-sealed : (nodes : List ℕ) (wait : ℕ) (s : State) (command : Command) → number_of (snapshot_before wait s command) ≡ sealed_by
+    (step nodes wait s command).1
 unfolding step seal sealed_state batch_of
 step-sealed nodes wait s command = grind arith
 
@@ -65,7 +68,8 @@ pub record HasSealed (command : Command) (after : State × Reply) (b : Batch) : 
   pub seals : is_light command ≡ false
   pub stands : after.0.sealed ≡ Some b
 
-pub step-seals : (nodes : List ℕ) (wait : ℕ) (s : State) (command : Command) (b : Batch) → snapshot_before wait s command ≡ Some b → HasSealed command (step nodes wait s command) b
+pub step-seals : (nodes : List ℕ) (wait : ℕ) (s : State) (command : Command) (b : Batch) → snapshot_before wait s command ≡ Some b →
+    HasSealed command (step nodes wait s command) b
 unfolding step
 step-seals nodes wait s command b e = record { seals = grind arith; stands = grind arith }
 
@@ -79,6 +83,7 @@ applied-fits old new lane command reply snapshot book applied is =
     let sealed : (b : Batch) → snapshot ≡ Some b → HasSealed command after b = λ b e. step-seals old.nodes old.wait old.state command b (sym is ∙ e) in
     record {
       sealed = ap number_of is ∙ step-sealed old.nodes old.wait old.state command ∙ ap sealed_by (sym told);
-      named = λ b e. subst (λ nodes. All (IsNode nodes) (named_nodes b)) applied.nodes (book.named.sealed b (ap (λ (t : State). t.sealed) state ∙ (sealed b e).stands));
+      named = λ b e. subst (λ nodes. All (IsNode nodes) (named_nodes b)) applied.nodes (book.named.sealed b
+          (ap (λ (t : State). t.sealed) state ∙ (sealed b e).stands));
       seals = λ b e. (sealed b e).seals;
     }

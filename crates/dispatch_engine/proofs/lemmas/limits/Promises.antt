@@ -1,6 +1,66 @@
 use Rattle.std.proofs.lemmas.Bool.Decides.{nat_tests}
-use Rattle.std.proofs.Common.{rules, ◌≡◌, ℕ, zero, suc, ◌+◌, ◌<◌, ◌≤◌, ◌⊎◌, inl, inr, List, [], ◌∷◌, ◌++◌, length, take, get_or, set, refl, sym, ap, ◌∙◌, subst, arith, Bool, true, false, cond, ⊎_elim, Some}
-use Rattle.dispatch_engine.proofs.Common.{range_with_len, IsStrictlyIncreasing, cases_lt, cases_eq, length_push, get_or_append_left, get_or_push, take_more, get_or_default, Contains-append_left, Contains-push, Contains-push_cases, filter-append, All-filter, All-from_get_or, Rider, SettledRider, SettledVehicle, no_rider, no_vehicle, IsTrip, request_at, no_request, promised_to, kept_rider, AreKept, IsHeld}
+use Rattle.std.proofs.Common.{
+  rules,
+  ◌≡◌,
+  ℕ,
+  zero,
+  suc,
+  ◌+◌,
+  ◌<◌,
+  ◌≤◌,
+  ◌⊎◌,
+  inl,
+  inr,
+  List,
+  [],
+  ◌∷◌,
+  ◌++◌,
+  length,
+  take,
+  get_or,
+  set,
+  refl,
+  sym,
+  ap,
+  ◌∙◌,
+  subst,
+  arith,
+  Bool,
+  true,
+  false,
+  cond,
+  ⊎_elim,
+  Some,
+}
+use Rattle.dispatch_engine.proofs.Common.{
+  range_with_len,
+  IsStrictlyIncreasing,
+  cases_lt,
+  cases_eq,
+  length_push,
+  get_or_append_left,
+  get_or_push,
+  take_more,
+  get_or_default,
+  Contains-append_left,
+  Contains-push,
+  Contains-push_cases,
+  filter-append,
+  All-filter,
+  All-from_get_or,
+  Rider,
+  SettledRider,
+  SettledVehicle,
+  no_rider,
+  no_vehicle,
+  IsTrip,
+  request_at,
+  no_request,
+  promised_to,
+  kept_rider,
+  AreKept,
+  IsHeld,
+}
 use Rattle.std.specs.List.{All, Contains, filter, slice_get}
 use Rattle.std.proofs.lemmas.List.{length-append, length-set, get_or-set_same, get_or-set_other, map-id, append-nil, take-append-drop}
 use Rattle.std.proofs.lemmas.Bool.{cond_both}
@@ -38,14 +98,16 @@ filter_range_rises p n = search (rules, IsStrictlyIncreasing-filter, length-rang
 
 pub filter_range_below : (p : ℕ → Bool) (n : ℕ) → All (λ r. r < n) (filter p (range_with_len 0 n))
 filter_range_below p n = All-filter p (λ r. r < n) (range_with_len 0 n)
-    (All-from_get_or (λ r. r < n) (range_with_len 0 n) 0 (λ i h. let e = length-range_with_len 0 n in let at = get_or-range_with_len 0 n i 0 (omega arith) in omega arith))
+    (All-from_get_or (λ r. r < n) (range_with_len 0 n) 0 (λ i h. let e = length-range_with_len 0 n in let at =
+    get_or-range_with_len 0 n i 0 (omega arith) in omega arith))
 
 -- the riders promised to a vehicle are a trip
 pub promised_trip : (id : ℕ) (requests : List Rider) → IsTrip (length requests) (promised_to id requests)
 promised_trip id requests = search (rules, filter_range_rises, filter_range_below)
 
 pub filter_range_skips : (p : ℕ → Bool) (n : ℕ) → p n ≡ false → filter p (range_with_len 0 (n + 1)) ≡ filter p (range_with_len 0 n)
-filter_range_skips p n e = filter_range_more p n ∙ ap (λ (b : Bool). filter p (range_with_len 0 n) ++ cond b (n ∷ []) []) e ∙ append-nil (filter p (range_with_len 0 n))
+filter_range_skips p n e = filter_range_more p n ∙ ap (λ (b : Bool). filter p (range_with_len 0 n) ++ cond b (n ∷ []) []) e ∙
+    append-nil (filter p (range_with_len 0 n))
 
 pub filter_range_takes : (p : ℕ → Bool) (n : ℕ) → p n ≡ true → filter p (range_with_len 0 (n + 1)) ≡ filter p (range_with_len 0 n) ++ n ∷ []
 filter_range_takes p n e = filter_range_more p n ∙ ap (λ (b : Bool). filter p (range_with_len 0 n) ++ cond b (n ∷ []) []) e
@@ -75,7 +137,8 @@ module _ (wait : ℕ) (requests : List Rider) (plain : List SettledRider) where
               let room : h < length after = (let e = k.count in omega arith) in
               inl (
                 rw more (subst (λ (v : ℕ). Contains (take i held ++ h ∷ []) v) (sym same) (Contains-push (take i held) h)),
-                subst (λ (v : ℕ). get_or (set after h new) v no_rider ≡ kept_rider wait (request_at requests v) (get_or plain v no_rider)) (sym same) (get_or-set_same after h new no_rider room),
+                subst (λ (v : ℕ). get_or (set after h new) v no_rider ≡ kept_rider wait (request_at requests v) (get_or plain v no_rider)) (sym same)
+                    (get_or-set_same after h new no_rider room),
               )
           | inr other ↦
               let stays : get_or (set after h new) r no_rider ≡ get_or after r no_rider = get_or-set_other after h r new no_rider other in
@@ -85,11 +148,13 @@ module _ (wait : ℕ) (requests : List Rider) (plain : List SettledRider) where
       }
 
   -- one more vehicle keeps its promises
-  pub kept_by_more : (i : ℕ) (v : SettledVehicle) (vehicles : List SettledVehicle) (before after : List SettledRider) → i < length vehicles → v ≡ get_or vehicles i v
+  pub kept_by_more : (i : ℕ) (v : SettledVehicle) (vehicles : List SettledVehicle) (before after : List SettledRider) → i < length vehicles →
+      v ≡ get_or vehicles i v
       → AreKept wait requests plain (IsHeld (take i vehicles)) plain before → AreKept wait requests plain (Contains v.held.items) before after
       → AreKept wait requests plain (IsHeld (take (i + 1) vehicles)) plain after
   kept_by_more i v vehicles before after h is upto own =
-      let more : take (i + 1) vehicles ≡ take i vehicles ++ v ∷ [] = take_more vehicles i v h ∙ ap (λ (w : SettledVehicle). take i vehicles ++ w ∷ []) (sym is) in
+      let more : take (i + 1) vehicles ≡ take i vehicles ++ v ∷ [] = take_more vehicles i v h ∙
+      ap (λ (w : SettledVehicle). take i vehicles ++ w ∷ []) (sym is) in
       rw more (record {
         count = own.count ∙ upto.count;
         each = λ r lr. ⊎_elim

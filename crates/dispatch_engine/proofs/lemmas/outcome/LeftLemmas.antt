@@ -12,17 +12,21 @@ none_counted n = grind arith
 
 -- numbers that are kept of those below n are no more than n
 pub kept_few : (p : ℕ → Bool) (n : ℕ) → length (filter p (range_with_len 0 n)) ≤ n
-kept_few p n = let e = length-range_with_len 0 n in let few = count_by-le-length p (range_with_len 0 n) in rw (length-filter p (range_with_len 0 n)) (omega arith)
+kept_few p n = let e = length-range_with_len 0 n in let few = count_by-le-length p (range_with_len 0 n) in rw (length-filter p (range_with_len 0 n))
+    (omega arith)
 
-module _ (g : Graph) (chosen : List (Option ℕ)) (flags : List Bool) (marked : MarksServed g chosen g.vehicles flags) (r : ℕ) (x : Bool) (low : r < g.riders) (is : x ≡ get_or flags r x) where
+module _ (g : Graph) (chosen : List (Option ℕ)) (flags : List Bool) (marked : MarksServed g chosen g.vehicles flags) (r : ℕ) (x : Bool) (low : r < g.riders)
+    (is : x ≡ get_or flags r x) where
   passes : (times_chosen g chosen r == 0) ≡ not x
   passes =
       let sized : g.riders ≤ length flags = marked.sized in
       none_counted (times_chosen g chosen r) ∙ ap not (sym (marked.marks r low)) ∙ ap not (sym (get_or_read flags r x (omega arith) is false))
 
   -- an unmarked rider is left out, a marked one isn't
-  pub left_takes : x ≡ false → filter (λ q. times_chosen g chosen q == 0) (range_with_len 0 (r + 1)) ≡ filter (λ q. times_chosen g chosen q == 0) (range_with_len 0 r) ++ r ∷ []
+  pub left_takes : x ≡ false → filter (λ q. times_chosen g chosen q == 0) (range_with_len 0 (r + 1)) ≡ filter (λ q. times_chosen g chosen q == 0)
+      (range_with_len 0 r) ++ r ∷ []
   left_takes e = filter_range_takes (λ q. times_chosen g chosen q == 0) r (passes ∙ ap not e)
 
-  pub left_skips : x ≡ true → filter (λ q. times_chosen g chosen q == 0) (range_with_len 0 (r + 1)) ≡ filter (λ q. times_chosen g chosen q == 0) (range_with_len 0 r)
+  pub left_skips : x ≡ true → filter (λ q. times_chosen g chosen q == 0) (range_with_len 0 (r + 1)) ≡ filter (λ q. times_chosen g chosen q == 0)
+      (range_with_len 0 r)
   left_skips e = filter_range_skips (λ q. times_chosen g chosen q == 0) r (passes ∙ ap not e)

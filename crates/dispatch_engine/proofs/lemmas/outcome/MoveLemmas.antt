@@ -1,6 +1,23 @@
 -- Moves of idle vehicles to riders who were left out.
 use Rattle.std.proofs.Common.{◌≡◌, ℕ, zero, suc, ◌<◌, List, [], ◌∷◌, length, get_or, refl, sym, ap, subst, arith}
-use Rattle.dispatch_engine.proofs.Common.{length-map, All-nil, All-map, IsMatching, IsBestMatching, MoveLine, IsTrip, vehicle_at, rider_at, IsSound, no_leg, Settled, AreMoves, HasPlaces, origins_of, starts_of}
+use Rattle.dispatch_engine.proofs.Common.{
+  length-map,
+  All-nil,
+  All-map,
+  IsMatching,
+  IsBestMatching,
+  MoveLine,
+  IsTrip,
+  vehicle_at,
+  rider_at,
+  IsSound,
+  no_leg,
+  Settled,
+  AreMoves,
+  HasPlaces,
+  origins_of,
+  starts_of,
+}
 use Rattle.std.specs.List.{All}
 use Rattle.dispatch_engine.proofs.lemmas.outcome.TripLemmas.{no_trip}
 
@@ -29,7 +46,8 @@ module _ (points : ℕ) (settled : Settled) (places : HasPlaces points settled) 
 
 module _ (tau : ℕ → ℕ → ℕ) (settled : Settled) (idle left : List ℕ) where
   -- the pairs of a matching are within the lists whose places it joins
-  pub pairs_within : (pairs : List (ℕ × ℕ)) → IsMatching tau (starts_of settled idle) (origins_of settled left) pairs → All (λ (p : ℕ × ℕ). (p.0 < length idle) × (p.1 < length left)) pairs
+  pub pairs_within : (pairs : List (ℕ × ℕ)) → IsMatching tau (starts_of settled idle) (origins_of settled left) pairs →
+      All (λ (p : ℕ × ℕ). (p.0 < length idle) × (p.1 < length left)) pairs
   pairs_within pairs m i d l =
       let starts : length (starts_of settled idle) ≡ length idle = length-map idle (λ v. (vehicle_at settled v).start) in
       let origins : length (origins_of settled left) ≡ length left = length-map left (λ r. (rider_at settled r).leg.origin) in
@@ -48,7 +66,8 @@ best_of_none tau to = record {
   least_total = λ other m e. omega arith;
 }
 
-pub no_moves : (tau : ℕ → ℕ → ℕ) (settled : Settled) (idle left : List ℕ) (moves : List MoveLine) → idle ≡ [] → moves ≡ [] → AreMoves tau settled idle left moves
+pub no_moves : (tau : ℕ → ℕ → ℕ) (settled : Settled) (idle left : List ℕ) (moves : List MoveLine) → idle ≡ [] → moves ≡ [] →
+    AreMoves tau settled idle left moves
 no_moves tau settled idle left moves none told =
     subst (λ (vs : List ℕ). AreMoves tau settled vs left moves) (sym none)
     (record { pairs = []; best = best_of_none tau (origins_of settled left); rising = λ i j d a b. absurd (omega arith); told = told })

@@ -16,13 +16,15 @@ rv_lines-requires-clause-riders c = λ k d l. (c.requires.exact.edges_exact.righ
 
 pub trip_row_lines-requires-clause-riders : goal.trip_row_lines-requires-clause-riders
 trip_row_lines-requires-clause-riders c =
-    subst (λ (rows : List TripRow). All (λ row. All (λ r. r < length c.args.graphs.now.instance.now.settled.now.riders) row.riders.items) rows) (sym c.rows.ensures.value)
+    subst (λ (rows : List TripRow). All (λ row. All (λ r. r < length c.args.graphs.now.instance.now.settled.now.riders) row.riders.items) rows)
+    (sym c.rows.ensures.value)
     (λ k d below. (c.requires.exact.exact.right k d below).served.riders.within)
 
 pub trip_row_lines-requires-clause-few : goal.trip_row_lines-requires-clause-few
 trip_row_lines-requires-clause-few c =
     subst (λ (rows : List TripRow). All (λ row. length row.riders.items ≤ 6) rows) (sym c.rows.ensures.value)
-    (λ k d below. subst (λ (row : TripRow). length row.riders.items ≤ 6) (get_or_default c.args.graphs.now.graph.now.rows k no_row d below) (c.requires.exact.exact.good.rows k below).few)
+    (λ k d below. subst (λ (row : TripRow). length row.riders.items ≤ 6) (get_or_default c.args.graphs.now.graph.now.rows k no_row d below)
+    (c.requires.exact.exact.good.rows k below).few)
 
 pub returns-clause-lists : goal.returns-clause-lists
 returns-clause-lists c =
@@ -36,11 +38,15 @@ returns-clause-lists c =
     record {
       lapsed = items_are c.lapsed_ids.result c.lapsed_ids.ensures c.in_ok-put.ensures;
       rv = items_are c.rv_lines.result c.rv_lines.ensures c.in_ok-put-3.ensures;
-      rr = items_are c.rr_lines.result c.rr_lines.ensures c.in_ok-put-4.ensures ∙ ap (λ (pairs : List (ℕ × ℕ)). map (λ (pair : ℕ × ℕ). (rider_id settled pair.0, rider_id settled pair.1)) pairs) c.all.ensures;
-      rows = items_are c.trip_row_lines.result c.trip_row_lines.ensures c.in_ok-put-5.ensures ∙ ap (λ (rows : List TripRow). map (trip_row_line settled) rows) c.rows.ensures.value;
+      rr = items_are c.rr_lines.result c.rr_lines.ensures c.in_ok-put-4.ensures ∙ ap (λ (pairs : List (ℕ × ℕ)). map
+          (λ (pair : ℕ × ℕ). (rider_id settled pair.0, rider_id settled pair.1)) pairs) c.all.ensures;
+      rows = items_are c.trip_row_lines.result c.trip_row_lines.ensures c.in_ok-put-5.ensures ∙
+          ap (λ (rows : List TripRow). map (trip_row_line settled) rows) c.rows.ensures.value;
       late = items_have c.late_lines.result (AreLate points tau settled) c.late_lines.ensures c.in_ok-put-2.ensures;
       trips = items_have c.chosen_trips.result (AreTrips points tau settled graph chosen) c.chosen_trips.ensures c.in_ok-put-6.ensures;
-      left = items_are c.rider_ids.result c.rider_ids.ensures c.in_ok-put-7.ensures ∙ ap (λ (riders : List ℕ). map (rider_id settled) riders) (c.deref.ensures.value ∙ left);
+      left = items_are c.rider_ids.result c.rider_ids.ensures c.in_ok-put-7.ensures ∙ ap (λ (riders : List ℕ). map (rider_id settled) riders)
+          (c.deref.ensures.value ∙ left);
       moves = subst (λ (riders : List ℕ). AreMoves tau settled (idle_vehicles settled graph chosen) riders c.put-8.new.list) (c.deref-2.ensures.value ∙ left)
-          (items_have c.move_lines.result (AreMoves tau settled (idle_vehicles settled graph chosen) c.deref-2.result.now) c.move_lines.ensures c.in_ok-put-8.ensures);
+          (items_have c.move_lines.result (AreMoves tau settled (idle_vehicles settled graph chosen) c.deref-2.result.now) c.move_lines.ensures
+          c.in_ok-put-8.ensures);
     }

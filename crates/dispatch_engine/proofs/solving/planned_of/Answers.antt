@@ -10,7 +10,8 @@ returns-in-Ok g c =
     let found = c.in_ok-found.found in
     let made = c.list_all.new.planned in
     let p = posed_by c.args.graphs.now in
-    let back : to_z w128 (of_z w128 c.bound_of-bound.result) ≡ found.bound = to_z-of_z w128 c.bound_of-bound.result (record { sfits = c.bound_of-bound.type_inv }) ∙ c.bound_of-bound.ensures in
+    let back : to_z w128 (of_z w128 c.bound_of-bound.result) ≡ found.bound = to_z-of_z w128 c.bound_of-bound.result
+    (record { sfits = c.bound_of-bound.type_inv }) ∙ c.bound_of-bound.ensures in
     record {
       graph = p.graph;
       edges = p.edges;
@@ -19,6 +20,7 @@ returns-in-Ok g c =
       edges_exact = c.requires.edges_exact;
       pairs_exact = c.requires.pairs_exact;
       holds = good_plan c.args.graphs.now.instance.now.settings.now p found made c.in_ok-found.ensures
-          (c.in-Ok.ensures.cost ∙ c.unlisted-planned.ensures.cost) (c.in-Ok.ensures.bound ∙ c.unlisted-planned.ensures.bound ∙ back) (c.in-Ok.ensures.tree ∙ c.unlisted-planned.ensures.tree)
+          (c.in-Ok.ensures.cost ∙ c.unlisted-planned.ensures.cost) (c.in-Ok.ensures.bound ∙ c.unlisted-planned.ensures.bound ∙ back)
+          (c.in-Ok.ensures.tree ∙ c.unlisted-planned.ensures.tree)
           (subst (λ (chosen : List (Option ℕ)). AreLists p chosen made) c.chosen-chosen.ensures c.in-Ok.ensures.lists);
     }

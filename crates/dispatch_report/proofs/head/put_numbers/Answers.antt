@@ -8,7 +8,8 @@ six a b c d e f = rw (append-nil f, append_assoc (a ++ b) c ((d ++ e) ++ f), app
 pub returns : goal.returns
 returns c =
     let s = c.args.settings.now in
-    let whole = six (numbered (codes "settings wait=") s.wait) (numbered (codes " delay=") s.delay) (numbered (codes " trip=") s.trip) (numbered (codes " penalty=") s.penalty) (numbered (codes " budget=") s.budget) (numbered (codes " pairs=") s.pairs) in
+    let whole = six (numbered (codes "settings wait=") s.wait) (numbered (codes " delay=") s.delay) (numbered (codes " trip=") s.trip)
+    (numbered (codes " penalty=") s.penalty) (numbered (codes " budget=") s.budget) (numbered (codes " pairs=") s.pairs) in
     IfOk-equal c.put_fields.result c.put_fields.new.line.items _ _
     (rw (c.from.ensures, c.from-2.ensures, c.from-3.ensures, c.from-4.ensures, c.from-5.ensures, c.from-6.ensures) at c.put_fields.ensures)
     (ap (λ (l : List ℕ). c.args.line.now.items ++ l) whole)

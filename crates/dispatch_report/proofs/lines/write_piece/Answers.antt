@@ -15,4 +15,5 @@ returns-in_err-write_all-clause-bytes g c =
 pub returns-clause-bytes : goal.returns-clause-bytes
 returns-clause-bytes g c =
     let P : List ℕ → Type 0 = λ bytes. Appends (g.K.Sink.written c.args.sink.now) (g.K.Sink.written c.write_all.new.sink) bytes in
-    piece_written _ _ c.args.piece.now.items _ (subst P c.as_slice.ensures.value c.in_ok-write_all.ensures.whole) c.clear.ensures.items c.in_ok-write_all.ensures.never_falls
+    piece_written _ _ c.args.piece.now.items _ (subst P c.as_slice.ensures.value c.in_ok-write_all.ensures.whole) c.clear.ensures.items
+    c.in_ok-write_all.ensures.never_falls

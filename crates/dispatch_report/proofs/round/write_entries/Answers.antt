@@ -15,7 +15,8 @@ loop-entry-preserved g c =
     let done = c.loop-entry.invariant in
     let lines = entry_lines c.args.proof c.loop-entry.position c.entry-item.result in
     let rest = entries_lines c.args.proof (one_more c.loop-entry.position) (drop (suc i) entries) in
-    let whole = append_assoc done.0 lines rest ∙ ap (λ ls. done.0 ++ ls) (entries_lines-at c.args.proof c.loop-entry.position entries i c.entry-item.result within c.entry-item.is) ∙ done.2 in
+    let whole = append_assoc done.0 lines rest ∙ ap (λ ls. done.0 ++ ls) (entries_lines-at c.args.proof c.loop-entry.position entries i c.entry-item.result
+    within c.entry-item.is) ∙ done.2 in
     (done.0 ++ lines, then done.1 c.write_entry.ensures, rw (add-one, c.saturating_add-position.ensures) whole)
 
 pub returns : goal.returns
@@ -23,5 +24,6 @@ returns g c =
     let done = c.loop-entry.invariant in
     let past : length c.args.entries.now ≤ c.loop-entry.entry-index = omega arith in
     same_lines done.0 (entries_lines c.args.proof c.args.first c.args.entries.now)
-    (sym (append-nil done.0) ∙ ap (λ ls. done.0 ++ ls) (sym (entries_lines-end c.args.proof c.loop-entry.position c.args.entries.now c.loop-entry.entry-index past)) ∙ done.2)
+    (sym (append-nil done.0) ∙ ap (λ ls. done.0 ++ ls)
+    (sym (entries_lines-end c.args.proof c.loop-entry.position c.args.entries.now c.loop-entry.entry-index past)) ∙ done.2)
     done.1

@@ -5,4 +5,5 @@ use Rattle.dispatch_report.proofs.Common.{signed}
 use Rattle.dispatch_report.proofs.words.put_multipliers.Goals as goal
 
 pub returns : goal.returns
-returns c = c.loop-multiplier.invariant ∙ ap (λ ms. c.args.line.now.items ++ flat_map (signed (codes " ")) ms) (take_all c.loop-multiplier.multiplier-index c.args.multipliers.now (omega arith))
+returns c = c.loop-multiplier.invariant ∙ ap (λ ms. c.args.line.now.items ++ flat_map (signed (codes " ")) ms)
+    (take_all c.loop-multiplier.multiplier-index c.args.multipliers.now (omega arith))

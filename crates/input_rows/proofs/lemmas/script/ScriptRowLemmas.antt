@@ -1,5 +1,26 @@
 use Rattle.std.proofs.Common.{◌≡◌, ℕ, false, not, eqb, nat_lt, List, Ok, refl, subst, arith}
-use Rattle.input_rows.proofs.Common.{field_at, refused_where, then_ok, refused_where-passed, Command, Number, LaneRange, RoundBack, UnknownCommand, ExtraField, SealLane, ScriptRow, ScriptVersion, three_in, command_in, leaves_empty, script_row_in, IsBehind, MayStand, round_before}
+use Rattle.input_rows.proofs.Common.{
+  field_at,
+  refused_where,
+  then_ok,
+  refused_where-passed,
+  Command,
+  Number,
+  LaneRange,
+  RoundBack,
+  UnknownCommand,
+  ExtraField,
+  SealLane,
+  ScriptRow,
+  ScriptVersion,
+  three_in,
+  command_in,
+  leaves_empty,
+  script_row_in,
+  IsBehind,
+  MayStand,
+  round_before,
+}
 use Rattle.std.specs.Option.{ok_or}
 use Rattle.std.proofs.lemmas.Bool.{ltb-false}
 use Rattle.std.proofs.lemmas.Bool.Decides.{nat_tests}
@@ -16,7 +37,8 @@ unfolding number_up_to
 round_before-first records = refl
 
 -- a command by its word stands where its word may
-MayStand-command_in : (version : ScriptVersion) (row : ℕ) (fields : List (List ℕ)) (word : Word) (command : Command) (lane : ℕ) → command_in version row fields word ≡ Ok command → (elim word [ Seal ↦ not (eqb lane 0) | _ ↦ false ]) ≡ false → MayStand lane command
+MayStand-command_in : (version : ScriptVersion) (row : ℕ) (fields : List (List ℕ)) (word : Word) (command : Command) (lane : ℕ) →
+    command_in version row fields word ≡ Ok command → (elim word [ Seal ↦ not (eqb lane 0) | _ ↦ false ]) ≡ false → MayStand lane command
 unfolding command_in three_in
 MayStand-command_in version row fields word (seal now) lane is stands = grind (arith, nat_tests)
 MayStand-command_in version row fields word (close batch outcome) lane is stands = grind (arith, nat_tests)
@@ -27,7 +49,8 @@ pub record IsRead (fields : List (List ℕ)) (last : ℕ) (script_row : ScriptRo
   pub behind : IsBehind last script_row
   pub named : script_row.round ≡ number_at fields 0
 
-pub IsRead-script_row_in : (version : ScriptVersion) (row last : ℕ) (fields : List (List ℕ)) (script_row : ScriptRow) → script_row_in version row last fields ≡ Ok script_row → IsRead fields last script_row
+pub IsRead-script_row_in : (version : ScriptVersion) (row last : ℕ) (fields : List (List ℕ)) (script_row : ScriptRow) →
+    script_row_in version row last fields ≡ Ok script_row → IsRead fields last script_row
 unfolding script_row_in
 IsRead-script_row_in version row last fields script_row is =
     then_ok (number_in Number row fields 0) _ script_row (IsRead fields last script_row) is (λ round numbered is.
@@ -45,6 +68,7 @@ IsRead-script_row_in version row last fields script_row is =
         number = number_in-within Number row fields 0 round numbered;
         round = ltb-false round last (refused_where-passed (nat_lt round last) (RoundBack row) v forward);
         lane = (let most = ltb-false 15 lane (refused_where-passed (nat_lt 15 lane) (LaneRange row) u in_range) in omega arith);
-        stands = MayStand-command_in version row fields word command lane read (refused_where-passed (elim word [ Seal ↦ not (eqb lane 0) | _ ↦ false ]) (SealLane row) x stands);
+        stands = MayStand-command_in version row fields word command lane read (refused_where-passed (elim word [ Seal ↦ not (eqb lane 0) | _ ↦ false ])
+            (SealLane row) x stands);
       };
     })))))))))

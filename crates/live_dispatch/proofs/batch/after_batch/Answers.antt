@@ -6,29 +6,38 @@ use Rattle.live_dispatch.proofs.batch.after_batch.Goals as goal
 
 pub returns-in-Held-clause-went : goal.returns-in-Held-clause-went
 returns-in-Held-clause-went g c = λ start b reads from on.
-    batch-held c.args.solver.now.settings.now c.args.solver.now.network.now start b c.args.round c.args.opened.book _ _ _ _ _ reads on c.cut_batch.new.book c.in-Ok.field-0 c.in-Held.row
+    batch-held c.args.solver.now.settings.now c.args.solver.now.network.now start b c.args.round c.args.opened.book _ _ _ _ _ reads on c.cut_batch.new.book
+    c.in-Ok.field-0 c.in-Held.row
     (g.L.RowSource.faults c.args.opened.lines) c.in-Ok.ensures c.in-Held.is from
 
 pub returns-in-Ended-clause-went : goal.returns-in-Ended-clause-went
 returns-in-Ended-clause-went g c = λ start b reads from on.
-    batch-last c.args.solver.now.settings.now c.args.solver.now.network.now start b c.args.round c.args.opened.book _ _ _ _ _ reads on c.cut_batch.new.book c.in-Ok.field-0
+    batch-last c.args.solver.now.settings.now c.args.solver.now.network.now start b c.args.round c.args.opened.book _ _ _ _ _ reads on c.cut_batch.new.book
+    c.in-Ok.field-0
     (g.L.RowSource.faults c.end.result.rows) _ c.end.result.ended c.in-Ok.ensures c.in-Ended.is
     (ap (notifiers_seen g.N.Notifier.told g.N.Notifier.faults g.N.Notifier.steady) c.end.ensures.notifiers) c.end.ensures.wrote
 
 pub returns-in-ReadFault-clause-went : goal.returns-in-ReadFault-clause-went
 returns-in-ReadFault-clause-went g c = λ start b reads from on.
-    batch-stopped c.args.solver.now.settings.now c.args.solver.now.network.now start b c.args.round c.args.opened.book _ _ _ _ _ reads on c.cut_batch.new.book c.in-Ok.field-0
+    batch-stopped c.args.solver.now.settings.now c.args.solver.now.network.now start b c.args.round c.args.opened.book _ _ _ _ _ reads on c.cut_batch.new.book
+    c.in-Ok.field-0
     (g.L.RowSource.faults c.stop.result.rows) _ live.ReadFault c.stop.result.ended c.in-Ok.ensures c.stop.ensures.ended
-    (λ i. outputs_seen g.K.Sink.written g.K.Sink.faults g.N.Notifier.told g.N.Notifier.faults g.N.Notifier.steady (c.stop.ensures.sink i) (c.stop.ensures.notifiers i)) (λ e. absurd cc)
-    (λ e. subst (λ r. Rose reads (g.L.RowSource.faults r)) (sym c.stop.ensures.rows) (subst (λ end. FaultsFrom end reads (g.L.RowSource.faults c.args.opened.lines)) c.in-ReadFault.is from))
+    (λ i. outputs_seen g.K.Sink.written g.K.Sink.faults g.N.Notifier.told g.N.Notifier.faults g.N.Notifier.steady (c.stop.ensures.sink i)
+    (c.stop.ensures.notifiers i)) (λ e. absurd cc)
+    (λ e. subst (λ r. Rose reads (g.L.RowSource.faults r)) (sym c.stop.ensures.rows) (subst
+    (λ end. FaultsFrom end reads (g.L.RowSource.faults c.args.opened.lines)) c.in-ReadFault.is from))
 
 pub returns-in-OutOfMemory-clause-went : goal.returns-in-OutOfMemory-clause-went
 returns-in-OutOfMemory-clause-went g c = λ start b reads from on.
-    batch-stopped c.args.solver.now.settings.now c.args.solver.now.network.now start b c.args.round c.args.opened.book _ _ _ _ _ reads on c.cut_batch.new.book c.in-Ok.field-0
-    (g.L.RowSource.faults c.stop-in-OutOfMemory.result.rows) _ live.OutOfMemory c.stop-in-OutOfMemory.result.ended c.in-Ok.ensures c.stop-in-OutOfMemory.ensures.ended
-    (λ i. outputs_seen g.K.Sink.written g.K.Sink.faults g.N.Notifier.told g.N.Notifier.faults g.N.Notifier.steady (c.stop-in-OutOfMemory.ensures.sink i) (c.stop-in-OutOfMemory.ensures.notifiers i)) (λ e. absurd cc) (λ e. absurd cc)
+    batch-stopped c.args.solver.now.settings.now c.args.solver.now.network.now start b c.args.round c.args.opened.book _ _ _ _ _ reads on c.cut_batch.new.book
+    c.in-Ok.field-0
+    (g.L.RowSource.faults c.stop-in-OutOfMemory.result.rows) _ live.OutOfMemory c.stop-in-OutOfMemory.result.ended c.in-Ok.ensures
+    c.stop-in-OutOfMemory.ensures.ended
+    (λ i. outputs_seen g.K.Sink.written g.K.Sink.faults g.N.Notifier.told g.N.Notifier.faults g.N.Notifier.steady (c.stop-in-OutOfMemory.ensures.sink i)
+    (c.stop-in-OutOfMemory.ensures.notifiers i)) (λ e. absurd cc) (λ e. absurd cc)
 
 pub returns-in-Err-clause-went : goal.returns-in-Err-clause-went
 returns-in-Err-clause-went g c = λ start b reads from on.
-    batch-failed c.args.solver.now.settings.now c.args.solver.now.network.now start b c.args.round c.args.opened.book _ _ _ _ _ reads on c.cut_batch.new.book c.in-Err.fault
+    batch-failed c.args.solver.now.settings.now c.args.solver.now.network.now start b c.args.round c.args.opened.book _ _ _ _ _ reads on c.cut_batch.new.book
+    c.in-Err.fault
     (g.L.RowSource.faults c.args.opened.lines) (Err c.in-Err.fault) c.in-Err.ensures refl

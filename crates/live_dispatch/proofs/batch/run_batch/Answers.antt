@@ -24,4 +24,8 @@ pub returns-in-Err-run_open-clause-went : goal.returns-in-Err-run_open-clause-we
 returns-in-Err-run_open-clause-went g c = λ start row is opens.
     opened-ended c.args.solver.now.settings.now c.args.solver.now.network.now start row c.args.snapshot.now _ opens
     (g.L.RowSource.faults c.in-Err-run_open.field-0.lines) _ _ refl
-    (λ i. record { sink = record { written = c.in-Err-run_open.ensures.kept.0 i; faults = c.in-Err-run_open.ensures.kept.1 i }; notifiers = c.in-Err-run_open.ensures.kept.3 i })
+    (λ i. record {
+      sink = record { written = c.in-Err-run_open.ensures.kept.0 i; faults = c.in-Err-run_open.ensures.kept.1 i };
+      notifiers =
+          c.in-Err-run_open.ensures.kept.3 i;
+    })

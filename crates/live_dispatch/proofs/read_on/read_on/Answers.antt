@@ -8,13 +8,16 @@ use Rattle.live_dispatch.proofs.read_on.read_on.Goals as goal
 
 pub returns-in-Ok-None-clause-read : goal.returns-in-Ok-None-clause-read
 returns-in-Ok-None-clause-read g c =
-    ran-so c.args.round _ _ _ (λ run taken. takes-all (g.L.RowSource.to_come c.args.lines.now) (g.L.RowSource.to_come c.rows.lines) run taken (rw c.in-Ok-None.field-0-is at c.in-Ok-None.ensures.row)) c.rows.invariant.2
+    ran-so c.args.round _ _ _ (λ run taken. takes-all (g.L.RowSource.to_come c.args.lines.now) (g.L.RowSource.to_come c.rows.lines) run taken
+    (rw c.in-Ok-None.field-0-is at c.in-Ok-None.ensures.row)) c.rows.invariant.2
 
 pub returns-in-Err-ReadFault-clause-read : goal.returns-in-Err-ReadFault-clause-read
-returns-in-Err-ReadFault-clause-read g c = ran-so c.args.round _ _ _ (takes-start (g.L.RowSource.to_come c.args.lines.now) (g.L.RowSource.to_come c.rows.lines)) c.rows.invariant.2
+returns-in-Err-ReadFault-clause-read g c = ran-so c.args.round _ _ _ (takes-start (g.L.RowSource.to_come c.args.lines.now) (g.L.RowSource.to_come c.rows.lines))
+    c.rows.invariant.2
 
 pub returns-in-Err-OutOfMemory-clause-read : goal.returns-in-Err-OutOfMemory-clause-read
-returns-in-Err-OutOfMemory-clause-read g c = ran-so c.args.round _ _ _ (takes-start (g.L.RowSource.to_come c.args.lines.now) (g.L.RowSource.to_come c.rows.lines)) c.rows.invariant.2
+returns-in-Err-OutOfMemory-clause-read g c = ran-so c.args.round _ _ _ (takes-start (g.L.RowSource.to_come c.args.lines.now)
+    (g.L.RowSource.to_come c.rows.lines)) c.rows.invariant.2
 
 pub returns-then-is_err-clause-read : goal.returns-then-is_err-clause-read
 returns-then-is_err-clause-read g c =
@@ -26,20 +29,26 @@ returns-then-line-eq0-clause-read g c =
     let old = g.L.RowSource.to_come c.args.lines.now in
     let now = g.L.RowSource.to_come c.rows.lines in
     let row = rw c.in-Ok-Some.field-0-is at c.in-Ok-Some.ensures.row in
-    ran-so c.args.round _ _ _ (λ run taken. takes-more old now (g.L.RowSource.to_come c.next.new.self) run (c.in-Ok-Some.line ∷ []) taken row) c.rows.invariant.2
+    ran-so c.args.round _ _ _ (λ run taken. takes-more old now (g.L.RowSource.to_come c.next.new.self) run (c.in-Ok-Some.line ∷ []) taken row)
+    c.rows.invariant.2
 
 pub returns-clause-read : goal.returns-clause-read
-returns-clause-read g c = ran-so c.args.round _ _ _ (takes-start (g.L.RowSource.to_come c.args.lines.now) (g.L.RowSource.to_come c.rows.lines)) c.rows.invariant.2
+returns-clause-read g c = ran-so c.args.round _ _ _ (takes-start (g.L.RowSource.to_come c.args.lines.now) (g.L.RowSource.to_come c.rows.lines))
+    c.rows.invariant.2
 
 pub rows-preserved : goal.rows-preserved
 rows-preserved g c =
     let called = called_ok c.with_turn.result (sym c.is_err.ensures.value ∙ c.if-is_err.false) c.with_turn.ensures.calls in
     let own = c.with_turn.ensures.pass in
     let behind = rw c.in-Ok-Some.field-0-is at c.in-Ok-Some.ensures.behind in
-    let goes : GoesOn c.args.round c.in-Ok-Some.line = (subst (λ (last : ℕ). IsBehind last c.in-Ok-Some.line) c.rows.invariant.4 behind.0, (c.if-line-eq0.false, c.if-line-round.false)) in (
+    let goes : GoesOn c.args.round c.in-Ok-Some.line = (
+      subst (λ (last : ℕ). IsBehind last c.in-Ok-Some.line) c.rows.invariant.4 behind.0,
+      (c.if-line-eq0.false, c.if-line-round.false),
+    ) in (
       own.0,
       own.1 ∙ c.rows.invariant.1,
-      run-more c.args.round (g.L.RowSource.to_come c.args.lines.now) (g.L.RowSource.to_come c.rows.lines) (g.L.RowSource.to_come c.next.new.self) c.rows.pass c.with_turn.new.pass c.in-Ok-Some.line
+      run-more c.args.round (g.L.RowSource.to_come c.args.lines.now) (g.L.RowSource.to_come c.rows.lines) (g.L.RowSource.to_come c.next.new.self) c.rows.pass
+          c.with_turn.new.pass c.in-Ok-Some.line
           (called.0.position, entry c.rows.pass.lane (record { lane = c.in-Ok-Some.line.lane; command = c.in-Ok-Some.line.command }) called.0.reply)
           c.rows.invariant.2 (rw c.in-Ok-Some.field-0-is at c.in-Ok-Some.ensures.row) goes called.1 refl,
       omega (arith, c.rows.invariant.3, c.next.ensures.never_falls),

@@ -32,5 +32,6 @@ pub returns : goal.returns
 returns g c =
     let e =
     counted-ended _ _ _ _ c.loop.held c.loop.invariant.stands (g.L.RowSource.faults c.stop.result.rows) _ c.stop.result.ended c.stop.ensures.ended
-    (λ i. outputs_seen g.K.Sink.written g.K.Sink.faults g.N.Notifier.told g.N.Notifier.faults g.N.Notifier.steady (c.stop.ensures.sink i) (c.stop.ensures.notifiers i)) in
+    (λ i. outputs_seen g.K.Sink.written g.K.Sink.faults g.N.Notifier.told g.N.Notifier.faults g.N.Notifier.steady (c.stop.ensures.sink i)
+    (c.stop.ensures.notifiers i)) in
     record { run = e.run; write_fault = e.write_fault; read_fault = e.read_fault; never_falls = e.writes }

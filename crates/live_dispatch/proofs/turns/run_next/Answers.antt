@@ -7,8 +7,10 @@ use Rattle.live_dispatch.proofs.turns.run_next.Goals as goal
 pub run_one-requires-clause-behind : goal.run_one-requires-clause-behind
 run_one-requires-clause-behind g c κs within =
     let next : ComesBehind (last_of c.args.run.round) (g.L.RowSource.last c.next_row.new.rows) (Some c.in-Ok-Some.row) =
-    subst (ComesBehind (last_of c.args.run.round) (g.L.RowSource.last c.next_row.new.rows)) c.in-Ok-Some.field-0-is (c.in-Ok-Some.ensures.behind (last_of c.args.run.round) c.requires.awaits.0) in
-    let all : IsBehind (last_of c.args.run.round) c.in-Ok-Some.row × (g.L.RowSource.last c.next_row.new.rows ≡ c.in-Ok-Some.row.round) × (c.args.run.proof ≡ c.args.solver.now.settings.now.proof) =
+    subst (ComesBehind (last_of c.args.run.round) (g.L.RowSource.last c.next_row.new.rows)) c.in-Ok-Some.field-0-is
+    (c.in-Ok-Some.ensures.behind (last_of c.args.run.round) c.requires.awaits.0) in
+    let all : IsBehind (last_of c.args.run.round) c.in-Ok-Some.row × (g.L.RowSource.last c.next_row.new.rows ≡ c.in-Ok-Some.row.round) ×
+    (c.args.run.proof ≡ c.args.solver.now.settings.now.proof) =
     (next.0, next.1, c.requires.awaits.1) in
     all
 
@@ -28,6 +30,9 @@ returns-in-Ok-None-clause-went g c = λ start stands.
 
 pub returns-in-Err-clause-went : goal.returns-in-Err-clause-went
 returns-in-Err-clause-went g c = λ start stands.
-    unread-ended c.args.solver.now.settings.now c.args.solver.now.network.now start _ c.args.held stands c.in-Err.fault (g.L.RowSource.faults c.stop.result.rows) _ c.fault_of_line.result c.stop.result.ended c.stop.ensures.ended c.fault_of_line.ensures
-    (λ i. outputs_seen g.K.Sink.written g.K.Sink.faults g.N.Notifier.told g.N.Notifier.faults g.N.Notifier.steady (c.stop.ensures.sink i) (c.stop.ensures.notifiers i))
-    (λ e. subst (λ r. Rose (g.L.RowSource.faults c.args.run.rows) (g.L.RowSource.faults r)) (sym c.stop.ensures.rows) (c.next_row.ensures.fault (c.in-Err.is ∙ ap Err e)))
+    unread-ended c.args.solver.now.settings.now c.args.solver.now.network.now start _ c.args.held stands c.in-Err.fault
+    (g.L.RowSource.faults c.stop.result.rows) _ c.fault_of_line.result c.stop.result.ended c.stop.ensures.ended c.fault_of_line.ensures
+    (λ i. outputs_seen g.K.Sink.written g.K.Sink.faults g.N.Notifier.told g.N.Notifier.faults g.N.Notifier.steady (c.stop.ensures.sink i)
+    (c.stop.ensures.notifiers i))
+    (λ e. subst (λ r. Rose (g.L.RowSource.faults c.args.run.rows) (g.L.RowSource.faults r)) (sym c.stop.ensures.rows)
+    (c.next_row.ensures.fault (c.in-Err.is ∙ ap Err e)))

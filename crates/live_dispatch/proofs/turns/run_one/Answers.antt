@@ -6,8 +6,10 @@ use Rattle.live_dispatch.proofs.turns.run_one.Goals as goal
 
 pub run_batch-answer-requires-clause-nodes : goal.run_batch-answer-requires-clause-nodes
 run_batch-answer-requires-clause-nodes g c κs within =
-    let taken = subst (λ o. HasTaken c.args.run.book c.args.row.lane c.args.row.command o c.run_row.new.book) c.in-Ok-Some.field-0-is c.in-Ok-Some.ensures.taken in
-    snapshot-known c.args.run.book.nodes c.args.solver.now.network.now.nodes c.args.row.command taken.reply c.in-Ok-Some.snapshot c.requires.ready.nodes taken.fits
+    let taken = subst (λ o. HasTaken c.args.run.book c.args.row.lane c.args.row.command o c.run_row.new.book) c.in-Ok-Some.field-0-is
+    c.in-Ok-Some.ensures.taken in
+    snapshot-known c.args.run.book.nodes c.args.solver.now.network.now.nodes c.args.row.command taken.reply c.in-Ok-Some.snapshot c.requires.ready.nodes
+    taken.fits
 
 pub returns-in-Ok-None-clause-went : goal.returns-in-Ok-None-clause-went
 returns-in-Ok-None-clause-went g c = λ start stands.
@@ -26,6 +28,8 @@ returns-in-Ok-Some-clause-went g c = λ start stands.
 
 pub returns-in-Err-clause-went : goal.returns-in-Err-clause-went
 returns-in-Err-clause-went g c = λ start stands.
-    row-ended c.args.solver.now.settings.now c.args.solver.now.network.now start _ c.args.row stands c.requires.behind.0 c.args.run.proof c.requires.behind.2 _ c.in-Err.fault _ c.in-Err.ensures.wrote
+    row-ended c.args.solver.now.settings.now c.args.solver.now.network.now start _ c.args.row stands c.requires.behind.0 c.args.run.proof c.requires.behind.2 _
+    c.in-Err.fault _ c.in-Err.ensures.wrote
     (g.L.RowSource.faults c.stop.result.rows) _ c.fault_of_text.result c.stop.result.ended c.stop.ensures.ended c.fault_of_text.ensures
-    (λ i. outputs_seen g.K.Sink.written g.K.Sink.faults g.N.Notifier.told g.N.Notifier.faults g.N.Notifier.steady (c.stop.ensures.sink i) (c.stop.ensures.notifiers i))
+    (λ i. outputs_seen g.K.Sink.written g.K.Sink.faults g.N.Notifier.told g.N.Notifier.faults g.N.Notifier.steady (c.stop.ensures.sink i)
+    (c.stop.ensures.notifiers i))

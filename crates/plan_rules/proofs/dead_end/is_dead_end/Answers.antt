@@ -8,4 +8,5 @@ returns-then-has_clash-clause-value c = (λ _. dead_by_clash c.args.graph.now (u
 
 pub returns-clause-value : goal.returns-clause-value
 returns-clause-value c =
-    dead_where_stranded c.args.graph.now (usable_of c.args.allowed.now) c.has_stranded.result (λ clash. false≢true (c.if-has_clash.ensures.value.1 clash)) c.has_stranded.ensures
+    dead_where_stranded c.args.graph.now (usable_of c.args.allowed.now) c.has_stranded.result (λ clash. false≢true (c.if-has_clash.ensures.value.1 clash))
+    c.has_stranded.ensures

@@ -14,5 +14,6 @@ returns c =
       within = λ k d l. (of k d l).0;
       all = λ k l. Contains-permutation ranks sorted (parts_of g k) c.sort.ensures.permutation (k, omega (arith, l, are.each), are.parts k l (parts_of g k));
       sorted = IsNonDecreasingBy-from_all_adjacent (λ rank. rank_of g rank.2) sorted
-          (λ k d lt. in_order g (get_or sorted k d) (get_or sorted (k + 1) d) c.ranks_of.ensures.good (of k d (omega (arith, lt))) (of (k + 1) d lt) (c.in_ok-sort.ensures.sorted k d (omega arith) lt));
+          (λ k d lt. in_order g (get_or sorted k d) (get_or sorted (k + 1) d) c.ranks_of.ensures.good (of k d (omega (arith, lt))) (of (k + 1) d lt)
+          (c.in_ok-sort.ensures.sorted k d (omega arith) lt));
     }

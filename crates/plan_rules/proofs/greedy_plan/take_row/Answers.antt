@@ -14,9 +14,11 @@ returns-then-not-is_any_marked-clause-selection c =
     let v : x.vehicle ≡ row_vehicle g row = ap (λ (r : TripRow). r.vehicle) read in
     let riders : c.as_slice-riders.result.now ≡ riders_at g row = c.as_slice-riders.ensures.value ∙ ap (λ (r : TripRow). r.riders.items) read in
     let free : choice_at c.args.chosen.now (row_vehicle g row) ≡ None = ap (choice_at c.args.chosen.now) (sym v) ∙ c.is_free.ensures.0 c.if-is_free.true in
-    let unmarked : list_any (λ r. get_or c.args.served.now r false) (riders_at g row) ≡ false = ap (list_any (λ r. get_or c.args.served.now r false)) (sym riders) ∙ sym c.is_any_marked.ensures ∙ c.if-not-is_any_marked.true in
+    let unmarked : list_any (λ r. get_or c.args.served.now r false) (riders_at g row) ≡ false =
+    ap (list_any (λ r. get_or c.args.served.now r false)) (sym riders) ∙ sym c.is_any_marked.ensures ∙ c.if-not-is_any_marked.true in
     subst (λ (w : ℕ). IsSelection g (set c.args.chosen.now w (Some row)) c.mark_riders.new.marks) (sym v)
-    (selection_more g c.args.chosen.now c.args.served.now row c.rows.ensures.good c.requires.row c.requires.selection free unmarked c.mark_riders.new.marks c.mark_riders.ensures.len
+    (selection_more g c.args.chosen.now c.args.served.now row c.rows.ensures.good c.requires.row c.requires.selection free unmarked c.mark_riders.new.marks
+    c.mark_riders.ensures.len
     (λ r l. c.mark_riders.ensures.marked r l ∙ ap (λ (xs : List ℕ). get_or c.args.served.now r false || list_any (λ y. y == r) xs) riders))
 
 pub returns-else-is_free-clause-settled : goal.returns-else-is_free-clause-settled
@@ -32,6 +34,8 @@ returns-else-is_free-clause-settled c =
           inr (way_by_rider g c.args.chosen.now c.args.served.now row c.requires.selection
           (ap (list_any (λ r. get_or c.args.served.now r false)) (sym riders) ∙ sym w.is_any_marked.ensures ∙ w.if-not-is_any_marked.false))
       | else-is_free-via-else-is_free w ↦
-          let taken = some_choice (choice_at c.args.chosen.now x.vehicle) (λ (e : choice_at c.args.chosen.now x.vehicle ≡ None). both_ways _ w.if-is_free.false (c.is_free.ensures.1 e)) in
-          inr (way_by_vehicle g c.args.chosen.now c.args.served.now row (taken.0) c.rows.ensures.good c.requires.row c.requires.selection (ap (choice_at c.args.chosen.now) (sym v) ∙ taken.1))
+          let taken = some_choice (choice_at c.args.chosen.now x.vehicle) (λ (e : choice_at c.args.chosen.now x.vehicle ≡ None). both_ways _ w.if-is_free.false
+          (c.is_free.ensures.1 e)) in
+          inr (way_by_vehicle g c.args.chosen.now c.args.served.now row (taken.0) c.rows.ensures.good c.requires.row c.requires.selection
+          (ap (choice_at c.args.chosen.now) (sym v) ∙ taken.1))
     ]

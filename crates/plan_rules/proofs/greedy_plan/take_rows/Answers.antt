@@ -12,7 +12,8 @@ loop-rank-preserved c =
     let row = row_of ranks i in
     let within : row < length g.rows = c.requires.ranking.within i (0, 0, 0) (omega arith) in
     let done = c.take_row.ensures in
-    let before : (j : ℕ) → j < length g.rows → IsTaken g c.loop-rank.chosen j → rank_of g j ≤ rank_of g row = λ j low taken. old.earlier j i low taken (omega arith) (omega arith) in
+    let before : (j : ℕ) → j < length g.rows → IsTaken g c.loop-rank.chosen j → rank_of g j ≤ rank_of g row =
+    λ j low taken. old.earlier j i low taken (omega arith) (omega arith) in
     record {
       selection = done.selection;
       earlier = λ j p low taken a b.

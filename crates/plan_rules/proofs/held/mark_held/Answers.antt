@@ -18,9 +18,11 @@ loop-vehicle-preserved c =
     let g = graph_of c.args.parts.now in
     let long : length c.mark_held_by.new.marks ≡ c.loop-vehicle.marks.len = omega (arith, c.mark_held_by.auto.marks, c.loop-vehicle.marks.ok.0) in
     record {
-      marks = subst (MarksServed g g.held _) (sym (take_at c.mark_held_by.new.marks _ c.loop-vehicle.marks.len long)) (c.if-not-mark_held_by.ensures.marked refl);
+      marks = subst (MarksServed g g.held _) (sym (take_at c.mark_held_by.new.marks _ c.loop-vehicle.marks.len long))
+          (c.if-not-mark_held_by.ensures.marked refl);
       holds = holds_more g c.loop-vehicle.vehicle c.loop-vehicle.invariant.holds (c.if-not-mark_held_by.ensures.variant.0 refl);
     }
 
 pub returns-clause-held : goal.returns-clause-held
-returns-clause-held c = held_lawful (graph_of c.args.parts.now) (omega (arith, c.len-2.ensures, c.if-len-parts.false)) (λ v l. c.loop-vehicle.invariant.holds v (omega (arith, l)))
+returns-clause-held c = held_lawful (graph_of c.args.parts.now) (omega (arith, c.len-2.ensures, c.if-len-parts.false))
+    (λ v l. c.loop-vehicle.invariant.holds v (omega (arith, l)))

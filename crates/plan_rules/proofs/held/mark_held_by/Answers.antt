@@ -11,11 +11,14 @@ returns-then-is_any_marked-clause-variant c =
     let v = c.args.vehicle in
     let k = c.in-Some.row in
     let choice : choice_at g.held v ≡ Some k = sym (get_or_read g.held v c.index.result.now c.requires.held c.index.ensures None) ∙ c.in-Some.is in
-    let own = row_between g v k (slice_index c.args.starts.now v) (slice_index c.args.starts.now (v + 1)) (c.requires.starts.starts v (omega (arith, c.requires.vehicle))) (c.requires.starts.starts (v + 1) (omega (arith, c.requires.vehicle))) c.if-row-first.false c.if-end-row.false in
+    let own = row_between g v k (slice_index c.args.starts.now v) (slice_index c.args.starts.now (v + 1))
+    (c.requires.starts.starts v (omega (arith, c.requires.vehicle))) (c.requires.starts.starts (v + 1) (omega (arith, c.requires.vehicle)))
+    c.if-row-first.false c.if-end-row.false in
     let within : k < length g.rows = own.within in
     let read : c.index-in-Some.result.now ≡ row_at g k = row_read g g.rows k c.index-in-Some.result.now refl within c.index-in-Some.ensures in
     let riders : c.as_slice-riders.result.now ≡ riders_at g k = c.as_slice-riders.ensures.value ∙ ap (λ (r : TripRow). r.riders.items) read in
-    let some : list_any (λ q. get_or c.args.marks.now q false) (riders_at g k) ≡ true = ap (list_any (λ q. get_or c.args.marks.now q false)) (sym riders) ∙ sym c.is_any_marked.ensures ∙ c.if-is_any_marked.true in (
+    let some : list_any (λ q. get_or c.args.marks.now q false) (riders_at g k) ≡ true = ap (list_any (λ q. get_or c.args.marks.now q false)) (sym riders) ∙
+    sym c.is_any_marked.ensures ∙ c.if-is_any_marked.true in (
       λ e. absurd (false≢true e),
       λ h. absurd (marked_held g g.held v k c.args.marks.now c.requires.marked (c.requires.rows k within) some (held_at g v (Some k) choice h).1),
     )
@@ -23,7 +26,8 @@ returns-then-is_any_marked-clause-variant c =
 pub returns-in-None-clause-marked : goal.returns-in-None-clause-marked
 returns-in-None-clause-marked c = λ _.
     let g = graph_of c.args.parts.now in
-    let choice : choice_at g.held c.args.vehicle ≡ None = sym (get_or_read g.held c.args.vehicle c.index.result.now c.requires.held c.index.ensures None) ∙ c.in-None.is in
+    let choice : choice_at g.held c.args.vehicle ≡ None = sym (get_or_read g.held c.args.vehicle c.index.result.now c.requires.held c.index.ensures None) ∙
+    c.in-None.is in
     served_kept g g.held c.args.vehicle c.args.marks.now c.requires.marked choice
 
 pub returns-else-is_any_marked-clause-variant : goal.returns-else-is_any_marked-clause-variant
@@ -32,11 +36,14 @@ returns-else-is_any_marked-clause-variant c =
     let v = c.args.vehicle in
     let k = c.in-Some.row in
     let choice : choice_at g.held v ≡ Some k = sym (get_or_read g.held v c.index.result.now c.requires.held c.index.ensures None) ∙ c.in-Some.is in
-    let own = row_between g v k (slice_index c.args.starts.now v) (slice_index c.args.starts.now (v + 1)) (c.requires.starts.starts v (omega (arith, c.requires.vehicle))) (c.requires.starts.starts (v + 1) (omega (arith, c.requires.vehicle))) c.if-row-first.false c.if-end-row.false in
+    let own = row_between g v k (slice_index c.args.starts.now v) (slice_index c.args.starts.now (v + 1))
+    (c.requires.starts.starts v (omega (arith, c.requires.vehicle))) (c.requires.starts.starts (v + 1) (omega (arith, c.requires.vehicle)))
+    c.if-row-first.false c.if-end-row.false in
     let within : k < length g.rows = own.within in
     let read : c.index-in-Some.result.now ≡ row_at g k = row_read g g.rows k c.index-in-Some.result.now refl within c.index-in-Some.ensures in
     let riders : c.as_slice-riders.result.now ≡ riders_at g k = c.as_slice-riders.ensures.value ∙ ap (λ (r : TripRow). r.riders.items) read in
-    let none : list_any (λ q. get_or c.args.marks.now q false) (riders_at g k) ≡ false = ap (list_any (λ q. get_or c.args.marks.now q false)) (sym riders) ∙ sym c.is_any_marked.ensures ∙ c.if-is_any_marked.false in (
+    let none : list_any (λ q. get_or c.args.marks.now q false) (riders_at g k) ≡ false = ap (list_any (λ q. get_or c.args.marks.now q false)) (sym riders) ∙
+    sym c.is_any_marked.ensures ∙ c.if-is_any_marked.false in (
       λ _. holds_at g v (Some k) choice (own, unmarked_apart g g.held v k c.args.marks.now c.requires.marked (c.requires.rows k within) none),
       λ _. refl,
     )
@@ -47,7 +54,9 @@ returns-else-is_any_marked-clause-marked c = λ _.
     let v = c.args.vehicle in
     let k = c.in-Some.row in
     let choice : choice_at g.held v ≡ Some k = sym (get_or_read g.held v c.index.result.now c.requires.held c.index.ensures None) ∙ c.in-Some.is in
-    let own = row_between g v k (slice_index c.args.starts.now v) (slice_index c.args.starts.now (v + 1)) (c.requires.starts.starts v (omega (arith, c.requires.vehicle))) (c.requires.starts.starts (v + 1) (omega (arith, c.requires.vehicle))) c.if-row-first.false c.if-end-row.false in
+    let own = row_between g v k (slice_index c.args.starts.now v) (slice_index c.args.starts.now (v + 1))
+    (c.requires.starts.starts v (omega (arith, c.requires.vehicle))) (c.requires.starts.starts (v + 1) (omega (arith, c.requires.vehicle)))
+    c.if-row-first.false c.if-end-row.false in
     let within : k < length g.rows = own.within in
     let read : c.index-in-Some.result.now ≡ row_at g k = row_read g g.rows k c.index-in-Some.result.now refl within c.index-in-Some.ensures in
     let riders : c.as_slice-riders.result.now ≡ riders_at g k = c.as_slice-riders.ensures.value ∙ ap (λ (r : TripRow). r.riders.items) read in

@@ -21,12 +21,14 @@ loop-decision-preserved c =
     elim c.if-decision.branch [
       | then-decision w ↦ record {
         len = ap length w.usable-is ∙ w.mark_alone.ensures.len ∙ c.loop-decision.invariant.len;
-        usable = λ k l. ap (λ (us : List Bool). get_or us k false) w.usable-is ∙ along_alone g path i n d c.loop-decision.usable w.mark_alone.new.usable (omega arith) w.if-decision.true c.loop-decision.invariant.usable w.mark_alone.ensures.usable k l;
+        usable = λ k l. ap (λ (us : List Bool). get_or us k false) w.usable-is ∙ along_alone g path i n d c.loop-decision.usable w.mark_alone.new.usable
+            (omega arith) w.if-decision.true c.loop-decision.invariant.usable w.mark_alone.ensures.usable k l;
       }
       | else-decision w ↦
           let own = c.requires.path i d (omega arith) in
           record {
             len = ap length w.usable-is ∙ length-set _ _ _ ∙ c.loop-decision.invariant.len;
-            usable = λ k l. ap (λ (us : List Bool). get_or us k false) w.usable-is ∙ along_without g path i n d c.loop-decision.usable (omega arith) w.if-decision.false (omega (arith, own.1.within, c.loop-decision.invariant.len)) c.loop-decision.invariant.usable k l;
+            usable = λ k l. ap (λ (us : List Bool). get_or us k false) w.usable-is ∙ along_without g path i n d c.loop-decision.usable (omega arith)
+                w.if-decision.false (omega (arith, own.1.within, c.loop-decision.invariant.len)) c.loop-decision.invariant.usable k l;
           }
     ]

@@ -10,8 +10,11 @@ loop-vehicle-preserved c =
     let long : length c.loop-vehicle.starts.items ≡ c.loop-vehicle.vehicle = omega (arith, c.loop-vehicle.invariant.len, c.loop-vehicle.starts.ok.0) in
     record {
       len = omega (arith, c.in_ok-push.ensures.len, c.loop-vehicle.invariant.len);
-      before = λ v l. subst (λ (xs : List ℕ). IsStartOf g v (get_or xs v 0)) (sym c.in_ok-push.ensures.items) (starts_push g c.loop-vehicle.starts.items c.loop-vehicle.row c.loop-vehicle.vehicle long c.loop-vehicle.invariant.before c.loop-vehicle.invariant.here v l);
-      here = start_next g c.loop-vehicle.vehicle c.loop-vehicle.row c.end_of_vehicle-row.result c.requires.order c.loop-vehicle.invariant.here h.after h.within h.own h.next;
+      before = λ v l. subst (λ (xs : List ℕ). IsStartOf g v (get_or xs v 0)) (sym c.in_ok-push.ensures.items)
+          (starts_push g c.loop-vehicle.starts.items c.loop-vehicle.row c.loop-vehicle.vehicle long c.loop-vehicle.invariant.before
+          c.loop-vehicle.invariant.here v l);
+      here = start_next g c.loop-vehicle.vehicle c.loop-vehicle.row c.end_of_vehicle-row.result c.requires.order c.loop-vehicle.invariant.here h.after h.within
+          h.own h.next;
     }
 
 pub returns : goal.returns
@@ -19,8 +22,11 @@ returns c =
     let g = graph_of c.args.parts.now in
     let done : c.loop-vehicle.vehicle ≡ g.vehicles = omega arith in
     let long : length c.loop-vehicle.starts.items ≡ c.loop-vehicle.vehicle = omega (arith, c.loop-vehicle.invariant.len, c.loop-vehicle.starts.ok.0) in
-    let more : length c.push-2.new.self.items ≡ length c.loop-vehicle.starts.items + 1 = ap length c.in_ok-push-2.ensures.items ∙ length_push c.loop-vehicle.starts.items c.loop-vehicle.row in
+    let more : length c.push-2.new.self.items ≡ length c.loop-vehicle.starts.items + 1 = ap length c.in_ok-push-2.ensures.items ∙
+    length_push c.loop-vehicle.starts.items c.loop-vehicle.row in
     record {
       sized = omega arith;
-      starts = λ v l. subst (λ (xs : List ℕ). IsStartOf g v (get_or xs v 0)) (sym c.in_ok-push-2.ensures.items) (starts_push g c.loop-vehicle.starts.items c.loop-vehicle.row c.loop-vehicle.vehicle long c.loop-vehicle.invariant.before c.loop-vehicle.invariant.here v (omega (arith, l)));
+      starts = λ v l. subst (λ (xs : List ℕ). IsStartOf g v (get_or xs v 0)) (sym c.in_ok-push-2.ensures.items)
+          (starts_push g c.loop-vehicle.starts.items c.loop-vehicle.row c.loop-vehicle.vehicle long c.loop-vehicle.invariant.before
+          c.loop-vehicle.invariant.here v (omega (arith, l)));
     }

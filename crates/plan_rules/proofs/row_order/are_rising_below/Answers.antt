@@ -8,7 +8,9 @@ pub returns-then-rider-least : goal.returns-then-rider-least
 returns-then-rider-least c = (
   λ e. absurd (false≢true e),
   λ h. absurd (elim c.then-rider-least.branch [
-    | then-rider-least-via-then-rider-least w ↦ not_rising c.args.riders c.loop-rider.least c.loop-rider.rider-index c.args.members.now c.loop-rider.invariant (omega arith) (inl w.if-rider-least.true) h
-    | then-rider-least-via-else-rider-least+then-rider-riders w ↦ not_rising c.args.riders c.loop-rider.least c.loop-rider.rider-index c.args.members.now c.loop-rider.invariant (omega arith) (inr w.if-rider-riders.true) h
+    | then-rider-least-via-then-rider-least w ↦ not_rising c.args.riders c.loop-rider.least c.loop-rider.rider-index c.args.members.now c.loop-rider.invariant
+        (omega arith) (inl w.if-rider-least.true) h
+    | then-rider-least-via-else-rider-least+then-rider-riders w ↦ not_rising c.args.riders c.loop-rider.least c.loop-rider.rider-index c.args.members.now
+        c.loop-rider.invariant (omega arith) (inr w.if-rider-riders.true) h
   ]),
 )

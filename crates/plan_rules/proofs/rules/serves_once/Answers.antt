@@ -16,11 +16,14 @@ returns-then-is_any_marked-clause-value c =
     let k = c.in-Some.row in
     let choice : choice_at c.args.chosen.now n ≡ Some k = c.in-Some.is in
     let within : k < length g.rows = plan_rows g c.args.chosen.now c.requires.plan n k choice in
-    let read : get_or c.rows-rows.result.now k c.index-rows-row.result ≡ row_at g k = sym c.index-rows-row.is ∙ row_read g c.rows-rows.result.now k c.index-rows-row.result c.rows-rows.ensures.value within c.index-rows-row.is in
+    let read : get_or c.rows-rows.result.now k c.index-rows-row.result ≡ row_at g k = sym c.index-rows-row.is ∙
+    row_read g c.rows-rows.result.now k c.index-rows-row.result c.rows-rows.ensures.value within c.index-rows-row.is in
     let riders : c.as_slice-riders.result.now ≡ riders_at g k = c.as_slice-riders.ensures.value ∙ ap (λ (r : TripRow). r.riders.items) read in
-    let some : list_any (λ q. get_or c.loop-choice.served q false) (riders_at g k) ≡ true = ap (list_any (λ q. get_or c.loop-choice.served q false)) (sym riders) ∙ sym c.is_any_marked.ensures ∙ c.if-is_any_marked.true in (
+    let some : list_any (λ q. get_or c.loop-choice.served q false) (riders_at g k) ≡ true =
+    ap (list_any (λ q. get_or c.loop-choice.served q false)) (sym riders) ∙ sym c.is_any_marked.ensures ∙ c.if-is_any_marked.true in (
       λ e. absurd (false≢true e),
-      λ once. absurd (served_twice g c.args.chosen.now n k c.loop-choice.served c.loop-choice.invariant.marked (omega (arith, c.loop-choice-test.true, c.requires.plan.sized)) choice (c.rows-rows.ensures.good.rows k within) some once),
+      λ once. absurd (served_twice g c.args.chosen.now n k c.loop-choice.served c.loop-choice.invariant.marked
+          (omega (arith, c.loop-choice-test.true, c.requires.plan.sized)) choice (c.rows-rows.ensures.good.rows k within) some once),
     )
 
 pub loop-choice-preserved : goal.loop-choice-preserved
@@ -34,15 +37,18 @@ loop-choice-preserved c =
           let k = w.in-Some.row in
           let choice : choice_at chosen n ≡ Some k = w.in-Some.is in
           let within : k < length g.rows = plan_rows g chosen c.requires.plan n k choice in
-          let read : get_or c.rows-rows.result.now k w.index-rows-row.result ≡ row_at g k = sym w.index-rows-row.is ∙ row_read g c.rows-rows.result.now k w.index-rows-row.result c.rows-rows.ensures.value within w.index-rows-row.is in
+          let read : get_or c.rows-rows.result.now k w.index-rows-row.result ≡ row_at g k = sym w.index-rows-row.is ∙
+          row_read g c.rows-rows.result.now k w.index-rows-row.result c.rows-rows.ensures.value within w.index-rows-row.is in
           let riders : w.as_slice-riders.result.now ≡ riders_at g k = w.as_slice-riders.ensures.value ∙ ap (λ (r : TripRow). r.riders.items) read in
-          let none : list_any (λ q. get_or old q false) (riders_at g k) ≡ false = ap (list_any (λ q. get_or old q false)) (sym riders) ∙ sym w.is_any_marked.ensures ∙ w.if-is_any_marked.false in
+          let none : list_any (λ q. get_or old q false) (riders_at g k) ≡ false = ap (list_any (λ q. get_or old q false)) (sym riders) ∙
+          sym w.is_any_marked.ensures ∙ w.if-is_any_marked.false in
           let new = w.mark_riders.new.marks in
           let marked : (r : ℕ) → r < length old → get_or new r false ≡ (get_or old r false || is_in g (choice_at chosen n) r) = λ r l.
           w.mark_riders.ensures.marked r l
           ∙ ap (λ (xs : List ℕ). get_or old r false || list_any (λ x. x == r) xs) riders
           ∙ ap (λ (o : Option ℕ). get_or old r false || is_in g o r) (sym choice) in record {
-            marked = subst (MarksServed g chosen (n + 1)) (sym w.served-is) (served_more g chosen n old new c.loop-choice.invariant.marked w.mark_riders.ensures.len marked);
+            marked = subst (MarksServed g chosen (n + 1)) (sym w.served-is) (served_more g chosen n old new c.loop-choice.invariant.marked
+                w.mark_riders.ensures.len marked);
             once = once_apart g chosen n k old c.loop-choice.invariant.marked c.loop-choice.invariant.once choice (c.rows-rows.ensures.good.rows k within) none;
           }
       | in_default w ↦ record {

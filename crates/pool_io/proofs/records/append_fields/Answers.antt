@@ -17,9 +17,12 @@ loop-place-preserved c =
     let extended : is_ok c.extend_from_slice.result ≡ true = rw c.if-is_err.false at c.is_err.ensures.negation in
     let pushed : is_ok c.push.result ≡ true = rw c.if-is_err-2.false at c.is_err-else-is_err.ensures.negation in
     let bytes = rw extended at c.extend_from_slice.ensures.items in
-    let long : c.len.result ≡ length c.loop-place.bytes.items + length c.unwrap-field.result.now = c.len.ensures ∙ c.extend_from_slice.new.self.ok.0 ∙ ap length bytes ∙ length-append c.loop-place.bytes.items c.unwrap-field.result.now in
+    let long : c.len.result ≡ length c.loop-place.bytes.items + length c.unwrap-field.result.now = c.len.ensures ∙ c.extend_from_slice.new.self.ok.0 ∙
+    ap length bytes ∙ length-append c.loop-place.bytes.items c.unwrap-field.result.now in
     let ends = rw (pushed, long) at c.push.ensures.items in
     let old = cut_fields 0 c.args.ends.now.items c.args.bytes.now.items in
     let cut : cut_fields 0 c.push.new.self.items c.extend_from_slice.new.self.items ≡ old ++ take (c.loop-place.place + 1) (fields_of c.args.row.now) =
-    rw (ends, bytes, more, at) (cut_fields-more 0 c.loop-place.ends.items c.loop-place.bytes.items c.unwrap-field.result.now inv.1 ∙ ap (λ fields. fields ++ c.unwrap-field.result.now ∷ []) inv.0 ∙ append_assoc old (take c.loop-place.place (fields_of c.args.row.now)) (c.unwrap-field.result.now ∷ [])) in
+    rw (ends, bytes, more, at) (cut_fields-more 0 c.loop-place.ends.items c.loop-place.bytes.items c.unwrap-field.result.now inv.1 ∙
+    ap (λ fields. fields ++ c.unwrap-field.result.now ∷ []) inv.0 ∙ append_assoc old (take c.loop-place.place (fields_of c.args.row.now))
+    (c.unwrap-field.result.now ∷ [])) in
     (cut, rw (ends, bytes, length-append) (ends_more 0 c.loop-place.ends.items (length c.loop-place.bytes.items) (length c.unwrap-field.result.now) inv.1))

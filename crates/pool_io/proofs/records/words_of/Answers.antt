@@ -4,4 +4,5 @@ use Rattle.std.proofs.lemmas.Iterator.Splits.{YieldsList-from_slice_split}
 use Rattle.pool_io.proofs.records.words_of.Goals as goal
 
 pub returns : goal.returns
-returns c = map_from_collect c.collect.result c.collect.ensures.ran (YieldsList-from_slice_split _ (λ b. eqb b 44) c.args.header.now c.split.ensures.rest c.split.ensures.done c.split.ensures.closure (λ x b q k. search rules))
+returns c = map_from_collect c.collect.result c.collect.ensures.ran (YieldsList-from_slice_split _ (λ b. eqb b 44) c.args.header.now c.split.ensures.rest
+    c.split.ensures.done c.split.ensures.closure (λ x b q k. search rules))

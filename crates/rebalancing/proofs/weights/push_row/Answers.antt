@@ -7,4 +7,5 @@ loop-other-preserved c =
     let f : ℕ → ℕ = λ other. weight_of (travel_time c.args.times.now c.args.place other) in
     let wanted = c.args.wanted.now in
     let i = c.loop-other.other-index in
-    rw (c.in_ok-push.ensures.items, c.loop-other.invariant, c.weight.ensures, c.seconds.ensures, map_more f wanted i 0 c.loop-other-test.true) (append_assoc c.args.weights.now.items (map f (take i wanted)) _)
+    rw (c.in_ok-push.ensures.items, c.loop-other.invariant, c.weight.ensures, c.seconds.ensures, map_more f wanted i 0 c.loop-other-test.true)
+    (append_assoc c.args.weights.now.items (map f (take i wanted)) _)

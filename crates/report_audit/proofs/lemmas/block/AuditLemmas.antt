@@ -67,20 +67,29 @@ pub record IsItself (settings : Settings) (roads : Roads) (batch : Batch) (t : B
   pub after : behind ≡ rest
   pub meets : (q : Point) → MeetsAs settings roads batch t q
 
-good_block : (settings : Settings) (roads : Roads) (batch : Batch) (text : List ℕ) (other : Outcome) (behind : List ℕ) → BeginsWithGood settings roads batch text other behind → IsBlock text (lines_of true batch.number other) behind
-good_block settings roads batch text other behind good = subst (λ (t : List ℕ). IsBlock t (lines_of true batch.number other) behind) (sym good.whole) (outcome_block batch.number other behind good.fits.lines)
+good_block : (settings : Settings) (roads : Roads) (batch : Batch) (text : List ℕ) (other : Outcome) (behind : List ℕ) →
+    BeginsWithGood settings roads batch text other behind → IsBlock text (lines_of true batch.number other) behind
+good_block settings roads batch text other behind good = subst (λ (t : List ℕ). IsBlock t (lines_of true batch.number other) behind) (sym good.whole)
+    (outcome_block batch.number other behind good.fits.lines)
 
-module _ (settings : Settings) (roads : Roads) (batch : Batch) (kept : IsKept batch) (text : List ℕ) (lines : List BlockLine) (rest : List ℕ) (block : IsBlock text lines rest) where
-  pub good_is_judged : (other : Outcome) (behind : List ℕ) → BeginsWithGood settings roads batch text other behind → IsItself settings roads batch (told_by lines) other rest behind
+module _ (settings : Settings) (roads : Roads) (batch : Batch) (kept : IsKept batch) (text : List ℕ) (lines : List BlockLine) (rest : List ℕ)
+    (block : IsBlock text lines rest) where
+  pub good_is_judged : (other : Outcome) (behind : List ℕ) → BeginsWithGood settings roads batch text other behind →
+      IsItself settings roads batch (told_by lines) other rest behind
   good_is_judged other behind good =
       let same = block_of_one text lines (lines_of true batch.number other) rest behind block (good_block settings roads batch text other behind good) in
       let told : IsToldAs (vehicle_ids batch) batch.number other (told_by lines) =
       subst (λ (ls : List BlockLine). IsToldAs (vehicle_ids batch) batch.number other (told_by ls)) (sym same.0)
-      (outcome_is_told (vehicle_ids batch) batch.number other good.fits.stops (outcome_trips settings roads batch other good.good) (outcome_numbered settings roads batch other kept good.good)) in
+      (outcome_is_told (vehicle_ids batch) batch.number other good.fits.stops (outcome_trips settings roads batch other good.good)
+      (outcome_numbered settings roads batch other kept good.good)) in
       record {
         same = sym told.same;
         after = sym same.1;
-        meets = λ q. (told.number, subst (λ (o : Outcome). Meets settings roads batch o q) (sym told.same) (good_meets settings roads batch other good.good q), told.can q);
+        meets = λ q. (
+          told.number,
+          subst (λ (o : Outcome). Meets settings roads batch o q) (sym told.same) (good_meets settings roads batch other good.good q),
+          told.can q,
+        );
       }
 
   -- where a point fails, the text begins with a wrong block
@@ -89,15 +98,21 @@ module _ (settings : Settings) (roads : Roads) (batch : Batch) (kept : IsKept ba
 
   module _ (number : (told_by lines).batch ≡ batch.number) (can : (q : Point) → CanBeTold q (told_by lines)) where
     printed_is : lines ≡ lines_of true batch.number (judged_outcome (vehicle_ids batch) (told_by lines))
-    printed_is = lines_are (vehicle_ids batch) lines block.begins.order block.ended can ∙ ap (λ (n : ℕ). lines_of true n (judged_outcome (vehicle_ids batch) (told_by lines))) number
+    printed_is = lines_are (vehicle_ids batch) lines block.begins.order block.ended can ∙ ap
+        (λ (n : ℕ). lines_of true n (judged_outcome (vehicle_ids batch) (told_by lines))) number
 
     -- where all points hold, it is a good outcome whose block stands there
-    pub begins_good : IsGoodOutcome settings roads batch (judged_outcome (vehicle_ids batch) (told_by lines)) → BeginsWithGood settings roads batch text (judged_outcome (vehicle_ids batch) (told_by lines)) rest
+    pub begins_good : IsGoodOutcome settings roads batch (judged_outcome (vehicle_ids batch) (told_by lines)) →
+        BeginsWithGood settings roads batch text (judged_outcome (vehicle_ids batch) (told_by lines)) rest
     begins_good good =
         let outcome : Outcome = judged_outcome (vehicle_ids batch) (told_by lines) in
         record {
           whole = block.begins.whole ∙ ap (λ (ls : List BlockLine). lines_text (map block_line_text ls) ++ rest) printed_is;
-          fits = record { lines = subst (λ (ls : List BlockLine). All IsBlockLine ls) printed_is block.begins.lawful; stops = (judged_few (vehicle_ids batch) (told_by lines)).0 };
+          fits = record {
+            lines = subst (λ (ls : List BlockLine). All IsBlockLine ls) printed_is block.begins.lawful;
+            stops =
+                (judged_few (vehicle_ids batch) (told_by lines)).0;
+          };
           good = good;
         }
 
@@ -105,10 +120,12 @@ module _ (settings : Settings) (roads : Roads) (batch : Batch) (kept : IsKept ba
     line_count = search (rules, vehicle_ids, printed_is, length-map)
 
 -- a text that begins with no block in form begins with none of a good outcome
-pub fault_no_good : (settings : Settings) (roads : Roads) (batch : Batch) (text : List ℕ) (found : BlockFault) (refusal : BlockRefusal) → BlockFails text found → refusal ≡ refusal_for found → refusal ≢ OutOfMemory
+pub fault_no_good : (settings : Settings) (roads : Roads) (batch : Batch) (text : List ℕ) (found : BlockFault) (refusal : BlockRefusal) →
+    BlockFails text found → refusal ≡ refusal_for found → refusal ≢ OutOfMemory
     → (other : Outcome) (behind : List ℕ) → BeginsWithGood settings roads batch text other behind → ⊥
 fault_no_good settings roads batch text found refusal fails is some other behind good =
-    block_no_fault text (lines_of true batch.number other) behind (good_block settings roads batch text other behind good) found (λ (e : found ≡ fault.OutOfMemory). some (is ∙ ap refusal_for e)) fails
+    block_no_fault text (lines_of true batch.number other) behind (good_block settings roads batch text other behind good) found
+    (λ (e : found ≡ fault.OutOfMemory). some (is ∙ ap refusal_for e)) fails
 
 -- where a point fails, there is no good outcome
 pub wrong_no_good : (settings : Settings) (roads : Roads) (batch : Batch) → IsKept batch → (text : List ℕ) (p : Point) → BeginsWithWrong settings roads batch text p
@@ -117,7 +134,8 @@ wrong_no_good settings roads batch kept text p wrong other behind good =
     wrong.fails.1 ((good_is_judged settings roads batch kept text wrong.lines wrong.rest wrong.block other behind good).meets p)
 
 -- a text that begins with a good block isn't refused
-pub good_not_refused : (settings : Settings) (roads : Roads) (batch : Batch) → IsKept batch → (text : List ℕ) (outcome : Outcome) (rest : List ℕ) → BeginsWithGood settings roads batch text outcome rest
+pub good_not_refused : (settings : Settings) (roads : Roads) (batch : Batch) → IsKept batch → (text : List ℕ) (outcome : Outcome) (rest : List ℕ) →
+    BeginsWithGood settings roads batch text outcome rest
     → (refusal : BlockRefusal) → refusal ≢ OutOfMemory → Refuses settings roads batch text refusal → ⊥
 good_not_refused settings roads batch kept text outcome rest good OutOfMemory some is = some refl
 good_not_refused settings roads batch kept text outcome rest good (Cut n) some is = fault_no_good settings roads batch text (fault.Cut n) (Cut n) is refl some outcome rest good
@@ -138,7 +156,8 @@ module _ (settings : Settings) (roads : Roads) (batch : Batch) (text : List ℕ)
       (⊎_elim (λ (less : n < m). absurd (not_before p q one two less))
       (λ (high : m ≤ n). ⊎_elim (λ (more : m < n). absurd (not_before q p two one more)) (λ (low : n ≤ m). let e : n ≡ m = omega (arith, high, low) in e) (cases_lt m n)) (cases_lt n m))
 
-  one_of_fault : (f : BlockFault) → f ≢ fault.OutOfMemory → BlockFails text f → (s : BlockRefusal) → s ≢ OutOfMemory → Refuses settings roads batch text s → refusal_for f ≡ s
+  one_of_fault : (f : BlockFault) → f ≢ fault.OutOfMemory → BlockFails text f → (s : BlockRefusal) → s ≢ OutOfMemory → Refuses settings roads batch text s →
+      refusal_for f ≡ s
   one_of_fault f some fails OutOfMemory other b = absurd (other refl)
   one_of_fault f some fails (Cut m) other b = ap refusal_for (one_fault text f (fault.Cut m) some (λ h. cc) fails b)
   one_of_fault f some fails (Form m) other b = ap refusal_for (one_fault text f (fault.Form m) some (λ h. cc) fails b)

@@ -1,7 +1,42 @@
 -- The line of the settings.
-use Rattle.std.proofs.Common.{◌≡◌, ◌≢◌, ℕ, zero, suc, Bool, true, false, if◌then◌else◌, nat_eq, length, codes, List, [], ◌∷◌, ◌++◌, refl, sym, ap, ◌∙◌, append_assoc, arith, rules}
+use Rattle.std.proofs.Common.{
+  ◌≡◌,
+  ◌≢◌,
+  ℕ,
+  zero,
+  suc,
+  Bool,
+  true,
+  false,
+  if◌then◌else◌,
+  nat_eq,
+  length,
+  codes,
+  List,
+  [],
+  ◌∷◌,
+  ◌++◌,
+  refl,
+  sym,
+  ap,
+  ◌∙◌,
+  append_assoc,
+  arith,
+  rules,
+}
 use Rattle.std.proofs.lemmas.Bool.Decides.{nat_tests}
-use Rattle.report_audit.proofs.Common.{is_ascii_digit, numbered, IsShortNumber, settings_text, AreSettings, BeginsWith, BeginsWithNone, ends_number, SettingsText, dwell_text}
+use Rattle.report_audit.proofs.Common.{
+  is_ascii_digit,
+  numbered,
+  IsShortNumber,
+  settings_text,
+  AreSettings,
+  BeginsWith,
+  BeginsWithNone,
+  ends_number,
+  SettingsText,
+  dwell_text,
+}
 use Rattle.report_audit.proofs.lemmas.lines.ReadingLemmas.{EndsOnce, TextIsOfOne, numbered_once, of_one, pair_is}
 
 short_once : (words : List ℕ) → EndsOnce (numbered words) IsShortNumber
@@ -22,7 +57,8 @@ dwell_number : TextIsOfOne (numbered (codes " dwell=")) IsShortNumber
 dwell_number = of_one (short_once (codes " dwell="))
 
 -- no dwell is told as 0
-pub dwell_not_zero : (text : List ℕ) (told : ℕ) → nat_eq (length text) 0 ≡ false → told ≡ 0 → text ≡ numbered (codes " dwell=") told → (dwell : ℕ) → IsShortNumber dwell → text ≢ dwell_text dwell
+pub dwell_not_zero : (text : List ℕ) (told : ℕ) → nat_eq (length text) 0 ≡ false → told ≡ 0 → text ≡ numbered (codes " dwell=") told → (dwell : ℕ) →
+    IsShortNumber dwell → text ≢ dwell_text dwell
 dwell_not_zero text told some zero_told is zero within e = search rules
 dwell_not_zero text told some zero_told is (suc dwell) within e = search (rules, dwell_text, dwell_told, dwell_number)
 
@@ -60,7 +96,8 @@ fields_end [] ns dwell apart = dwell_ends dwell
 fields_end ([] ∷ ws) ns dwell apart = cc
 fields_end ((c ∷ cs) ∷ ws) ns dwell apart = grind (arith, nat_tests)
 
-begins_field : (w : List ℕ) (ws : List (List ℕ)) (text : List ℕ) (ns : Numbers (w ∷ ws)) (dwell : ℕ) → are_apart (w ∷ ws) ≡ true → AreShort (w ∷ ws) ns → text ≡ fields_text (w ∷ ws) ns dwell → BeginsWith (numbered w) IsShortNumber text ns.0 (fields_text ws ns.1 dwell)
+begins_field : (w : List ℕ) (ws : List (List ℕ)) (text : List ℕ) (ns : Numbers (w ∷ ws)) (dwell : ℕ) → are_apart (w ∷ ws) ≡ true → AreShort (w ∷ ws) ns →
+    text ≡ fields_text (w ∷ ws) ns dwell → BeginsWith (numbered w) IsShortNumber text ns.0 (fields_text ws ns.1 dwell)
 begins_field w ws text ns dwell apart short e = record { whole = e; lawful = short.0; ends = fields_end ws ns.1 dwell (apart_behind w ws apart) }
 
 -- a text is that of no such numbers
@@ -70,22 +107,27 @@ pub record IsNoFields (ws : List (List ℕ)) (text : List ℕ) : Type 0 where
 pub none_here : {w : List ℕ} {ws : List (List ℕ)} {text : List ℕ} → BeginsWithNone (numbered w) IsShortNumber text → IsNoFields (w ∷ ws) text
 none_here {w} {ws} {text} none = search (rules, begins_field)
 
-pub none_behind : {w : List ℕ} {ws : List (List ℕ)} {text : List ℕ} {n : ℕ} {after : List ℕ} → BeginsWith (numbered w) IsShortNumber text n after → IsNoFields ws after → IsNoFields (w ∷ ws) text
+pub none_behind : {w : List ℕ} {ws : List (List ℕ)} {text : List ℕ} {n : ℕ} {after : List ℕ} → BeginsWith (numbered w) IsShortNumber text n after →
+    IsNoFields ws after → IsNoFields (w ∷ ws) text
 none_behind {w} {ws} {text} {n} {after} b none =
     record {
       never = λ apart ns dwell short is e.
-          none.never (apart_behind w ws apart) ns.1 dwell short.1 is ((short_once w).once text n ns.0 after (fields_text ws ns.1 dwell) b (begins_field w ws text ns dwell apart short e)).1;
+          none.never (apart_behind w ws apart) ns.1 dwell short.1 is ((short_once w).once text n ns.0 after (fields_text ws ns.1 dwell) b
+          (begins_field w ws text ns dwell apart short e)).1;
     }
 
-pub field_behind : (w : List ℕ) {Is : ℕ → Type 0} {text after rest : List ℕ} {n : ℕ} → BeginsWith (numbered w) Is text n after → after ≡ rest → text ≡ numbered w n ++ rest
+pub field_behind : (w : List ℕ) {Is : ℕ → Type 0} {text after rest : List ℕ} {n : ℕ} → BeginsWith (numbered w) Is text n after → after ≡ rest →
+    text ≡ numbered w n ++ rest
 field_behind w {Is} {text} {after} {rest} {n} b e = b.whole ∙ ap (λ r. numbered w n ++ r) e
 
 -- the same text is that of the same numbers
-same_fields : (ws : List (List ℕ)) (ns ms : Numbers ws) (d e : ℕ) → are_apart ws ≡ true → AreShort ws ns → AreShort ws ms → IsShortNumber d → IsShortNumber e → fields_text ws ns d ≡ fields_text ws ms e → (ns ≡ ms) × (d ≡ e)
+same_fields : (ws : List (List ℕ)) (ns ms : Numbers ws) (d e : ℕ) → are_apart ws ≡ true → AreShort ws ns → AreShort ws ms → IsShortNumber d → IsShortNumber e →
+    fields_text ws ns d ≡ fields_text ws ms e → (ns ≡ ms) × (d ≡ e)
 same_fields [] ns ms d e apart sn sm sd se same = (refl, dwell_of_one d e sd se same)
 same_fields (w ∷ ws) ns ms d e apart sn sm sd se same =
     let text = fields_text (w ∷ ws) ns d in
-    let p = (short_once w).once text ns.0 ms.0 (fields_text ws ns.1 d) (fields_text ws ms.1 e) (begins_field w ws text ns d apart sn refl) (begins_field w ws text ms e apart sm same) in
+    let p = (short_once w).once text ns.0 ms.0 (fields_text ws ns.1 d) (fields_text ws ms.1 e) (begins_field w ws text ns d apart sn refl)
+    (begins_field w ws text ms e apart sm same) in
     let q = same_fields ws ns.1 ms.1 d e (apart_behind w ws apart) sn.1 sm.1 sd se p.1 in
     (pair_is ns ms p.0 q.0, q.1)
 
@@ -110,6 +152,7 @@ no_settings_line none s is e = none.never refl (numbers_of s) s.dwell (short_num
 pub settings_of_one : (a b : SettingsText) → AreSettings a → AreSettings b → settings_text a ≡ settings_text b → a ≡ b
 settings_of_one a b ia ib e =
     let same =
-    same_fields settings_words (numbers_of a) (numbers_of b) a.dwell b.dwell refl (short_numbers a ia) (short_numbers b ib) ia.dwell ib.dwell (sym (settings_fields a) ∙ e ∙ settings_fields b)
+    same_fields settings_words (numbers_of a) (numbers_of b) a.dwell b.dwell refl (short_numbers a ia) (short_numbers b ib) ia.dwell ib.dwell
+    (sym (settings_fields a) ∙ e ∙ settings_fields b)
     in
     grind (arith, same.0, same.1)

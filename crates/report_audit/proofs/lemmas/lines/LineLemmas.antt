@@ -13,7 +13,8 @@ pub said_behind : (P : List ℕ → Type 0) (text a b r s : List ℕ) → IsFirs
 said_behind P text a b r s ia ib p = subst P (sym (first_once text a b r s ia ib).1) p
 
 -- a line that fits doesn't fail
-pub line_no_fault : (form : HeadLine) (number : ℕ) (text : List ℕ) (fault : HeadFault) → LineFails form number text fault → (line rest : List ℕ) → IsFirstLine text line rest → HasForm form line → FitsLine form line → ⊥
+pub line_no_fault : (form : HeadLine) (number : ℕ) (text : List ℕ) (fault : HeadFault) → LineFails form number text fault → (line rest : List ℕ) →
+    IsFirstLine text line rest → HasForm form line → FitsLine form line → ⊥
 line_no_fault form number text (Cut n) fails line rest is has_form fits = no_one_line line rest (subst (λ t. is_one_line t ≡ true) is.whole fails.1)
 line_no_fault form number text (Form n) (at, first, behind, has, other) line rest is has_form fits =
     other (subst (HasForm form) (first_once text line first rest behind is has).0 has_form)

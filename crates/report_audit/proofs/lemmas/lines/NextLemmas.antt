@@ -7,7 +7,9 @@ use Rattle.report_audit.proofs.lines.EntryLineLemmas.{same_lane, entry_begins}
 use Rattle.report_audit.proofs.lemmas.lines.NumeralLemmas.{no_number}
 use Rattle.report_audit.proofs.lemmas.lines.ReadingLemmas.{numbered_below}
 
-pub no_line : (line : List ℕ) → ((n : ℕ) → n ≤ 4294967295 → line ≢ numbered (codes "round ") n) → ((n : ℕ) → n ≤ 18446744073709551615 → line ≢ numbered (codes "done ") n) → ((lane : ℕ) → IsNextLine (EntryOf lane) line → ⊥) → (x : NextLine) → IsNextLine x line → ⊥
+pub no_line : (line : List ℕ) → ((n : ℕ) → n ≤ 4294967295 → line ≢ numbered (codes "round ") n) →
+    ((n : ℕ) → n ≤ 18446744073709551615 → line ≢ numbered (codes "done ") n) → ((lane : ℕ) → IsNextLine (EntryOf lane) line → ⊥) → (x : NextLine) →
+    IsNextLine x line → ⊥
 no_line line round done entry (Round n) is = round n (omega (arith, is.0)) is.1
 no_line line round done entry (Done n) is = done n (omega (arith, is.0)) is.1
 no_line line round done entry (EntryOf lane) is = entry lane is

@@ -1,6 +1,44 @@
 -- Numerals at the beginning of a text.
-use Rattle.std.proofs.Common.{◌≡◌, ℕ, suc, ◌+◌, ◌-◌, ◌*◌, ◌<◌, ◌≤◌, ◌^◌, get_or, drop, true, List, [], ◌∷◌, ◌++◌, length, decimal, refl, sym, ap, ◌∙◌, arith, rules, Bool, false}
-use Rattle.report_audit.proofs.Common.{list_all, is_ascii_digit, at_drop_more, decimal_is_IsNumeral_wide, AllDigits, value_of, value_after, BeginsWith, BeginsWithNone, ends_number}
+use Rattle.std.proofs.Common.{
+  ◌≡◌,
+  ℕ,
+  suc,
+  ◌+◌,
+  ◌-◌,
+  ◌*◌,
+  ◌<◌,
+  ◌≤◌,
+  ◌^◌,
+  get_or,
+  drop,
+  true,
+  List,
+  [],
+  ◌∷◌,
+  ◌++◌,
+  length,
+  decimal,
+  refl,
+  sym,
+  ap,
+  ◌∙◌,
+  arith,
+  rules,
+  Bool,
+  false,
+}
+use Rattle.report_audit.proofs.Common.{
+  list_all,
+  is_ascii_digit,
+  at_drop_more,
+  decimal_is_IsNumeral_wide,
+  AllDigits,
+  value_of,
+  value_after,
+  BeginsWith,
+  BeginsWithNone,
+  ends_number,
+}
 use Rattle.std.proofs.lemmas.Bool.Decides.{nat_tests}
 use Rattle.std.proofs.lemmas.Str.Parse.{IsNumeralModel, numerals_by_fold, tells_by_index}
 
@@ -33,14 +71,16 @@ decimal_value n small =
     own.same (decimal n) numeral.0.1 ∙ numeral.1
 
 -- digits end where they end
-pub digits_unique : (a b r s : List ℕ) → list_all is_ascii_digit a ≡ true → list_all is_ascii_digit b ≡ true → ends_number r ≡ true → ends_number s ≡ true → a ++ r ≡ b ++ s → (a ≡ b) × (r ≡ s)
+pub digits_unique : (a b r s : List ℕ) → list_all is_ascii_digit a ≡ true → list_all is_ascii_digit b ≡ true → ends_number r ≡ true → ends_number s ≡ true →
+    a ++ r ≡ b ++ s → (a ≡ b) × (r ≡ s)
 digits_unique [] [] r s da db er es e = (refl, e)
 digits_unique [] (b ∷ ys) r s da db er es e = grind (arith, nat_tests)
 digits_unique (a ∷ xs) [] r s da db er es e = grind (arith, nat_tests)
 digits_unique (a ∷ xs) (b ∷ ys) r s da db er es e = grind (arith, nat_tests, digits_unique xs ys r s)
 
 -- a text that begins with a number begins with that number's digits, up to where they end
-module _ (text digits rest : List ℕ) (most : ℕ) (small : most < 2 ^ 128) (first : (text ≡ digits ++ rest) × (list_all is_ascii_digit digits ≡ true) × (ends_number rest ≡ true)) where
+module _ (text digits rest : List ℕ) (most : ℕ) (small : most < 2 ^ 128) (first : (text ≡ digits ++ rest) × (list_all is_ascii_digit digits ≡ true) ×
+    (ends_number rest ≡ true)) where
   begins_digits : (x : ℕ) (r : List ℕ) → BeginsWith decimal (λ n. n ≤ most) text x r → digits ≡ decimal x
   begins_digits x r b = (digits_unique digits (decimal x) rest r first.1 (decimal_digits x (omega (arith, b.lawful))) first.2 b.ends (sym first.0 ∙ b.whole)).0
 

@@ -1,6 +1,67 @@
 -- A text begins with one block at most.
-use Rattle.std.proofs.Common.{◌≡◌, ◌≢◌, ℕ, zero, suc, ◌+◌, ◌/◌, nat_lt, true, false, not, ◌==◌, ℤ, pos, negsuc, Option, None, Some, List, [], ◌∷◌, ◌++◌, length, map, codes, decimal, refl, sym, ap, ◌∙◌, subst, append_assoc, ne_eqb, arith, rules}
-use Rattle.report_audit.proofs.Common.{and_parts, and_from, All-head, All-tail, stop_text, lines_text, numbered, signed, spaced, IsBlock, BeginsBlock, IsCutBlock, IsBadBlock, BlockFails, block_line_text, IsBlockLine, is_one_line, kind_place, may_follow_at, follow_on, last_place, order_text, PlannedStop, BlockLine}
+use Rattle.std.proofs.Common.{
+  ◌≡◌,
+  ◌≢◌,
+  ℕ,
+  zero,
+  suc,
+  ◌+◌,
+  ◌/◌,
+  nat_lt,
+  true,
+  false,
+  not,
+  ◌==◌,
+  ℤ,
+  pos,
+  negsuc,
+  Option,
+  None,
+  Some,
+  List,
+  [],
+  ◌∷◌,
+  ◌++◌,
+  length,
+  map,
+  codes,
+  decimal,
+  refl,
+  sym,
+  ap,
+  ◌∙◌,
+  subst,
+  append_assoc,
+  ne_eqb,
+  arith,
+  rules,
+}
+use Rattle.report_audit.proofs.Common.{
+  and_parts,
+  and_from,
+  All-head,
+  All-tail,
+  stop_text,
+  lines_text,
+  numbered,
+  signed,
+  spaced,
+  IsBlock,
+  BeginsBlock,
+  IsCutBlock,
+  IsBadBlock,
+  BlockFails,
+  block_line_text,
+  IsBlockLine,
+  is_one_line,
+  kind_place,
+  may_follow_at,
+  follow_on,
+  last_place,
+  order_text,
+  PlannedStop,
+  BlockLine,
+}
 use Rattle.dispatch_report.specs.declared.block_line.BlockLine.TheVariants.{Batch}
 use Rattle.std.specs.List.{All, flat_map}
 use Rattle.std.proofs.lemmas.Bool.{cond_both}
@@ -68,7 +129,8 @@ block_line_one_line (Batch n) = search (rules, one_lines)
 block_line_one_line _ = search (rules, one_lines)
 
 -- the first line of a text of lines, and the others
-first_line : (x : BlockLine) (xs : List BlockLine) (rest : List ℕ) → lines_text (map block_line_text (x ∷ xs)) ++ rest ≡ block_line_text x ++ 10 ∷ (lines_text (map block_line_text xs) ++ rest)
+first_line : (x : BlockLine) (xs : List BlockLine) (rest : List ℕ) → lines_text (map block_line_text (x ∷ xs)) ++ rest ≡ block_line_text x ++ 10 ∷
+    (lines_text (map block_line_text xs) ++ rest)
 unfolding lines_text
 first_line x xs rest = search (rules, append_assoc)
 
@@ -96,7 +158,9 @@ bad_stuck : (text : List ℕ) (xs : List BlockLine) (r line after : List ℕ) �
 bad_stuck text xs r line after bad x behind is may e = grind (arith, nat_tests, (cut_once line), (block_line_one_line x))
 
 -- lines behind which none follows, at the beginning of one text, are the same
-stuck_same : (place : ℕ) (xs ys : List BlockLine) (r s : List ℕ) → All IsBlockLine xs → All IsBlockLine ys → follow_on place xs ≡ true → follow_on place ys ≡ true → IsStuck (last_place place xs) r → IsStuck (last_place place ys) s → lines_text (map block_line_text xs) ++ r ≡ lines_text (map block_line_text ys) ++ s → (xs ≡ ys) × (r ≡ s)
+stuck_same : (place : ℕ) (xs ys : List BlockLine) (r s : List ℕ) → All IsBlockLine xs → All IsBlockLine ys → follow_on place xs ≡ true →
+    follow_on place ys ≡ true → IsStuck (last_place place xs) r → IsStuck (last_place place ys) s →
+    lines_text (map block_line_text xs) ++ r ≡ lines_text (map block_line_text ys) ++ s → (xs ≡ ys) × (r ≡ s)
 unfolding lines_text
 stuck_same place [] [] r s ix iy fx fy kx ky e = (refl, e)
 stuck_same place [] (y ∷ ys) r s ix iy fx fy kx ky e = search (rules, All-head, and_parts, first_line)
@@ -118,7 +182,8 @@ stuck_same place (x ∷ xs) (y ∷ ys) r s ix iy fx fy kx ky e =
     in
     (ap (λ z. z ∷ xs) head ∙ ap (λ zs. y ∷ zs) rest.0, rest.1)
 
-stop_once : (text : List ℕ) (xs ys : List BlockLine) (r s : List ℕ) → BeginsBlock text xs r → BeginsBlock text ys s → IsStuck (last_place 0 xs) r → IsStuck (last_place 0 ys) s → (xs ≡ ys) × (r ≡ s)
+stop_once : (text : List ℕ) (xs ys : List BlockLine) (r s : List ℕ) → BeginsBlock text xs r → BeginsBlock text ys s → IsStuck (last_place 0 xs) r →
+    IsStuck (last_place 0 ys) s → (xs ≡ ys) × (r ≡ s)
 stop_once text xs ys r s bx by kx ky = stuck_same 0 xs ys r s bx.lawful by.lawful bx.order by.order kx ky (sym bx.whole ∙ by.whole)
 
 -- what a text's block is, is known of the text
@@ -126,12 +191,14 @@ pub block_of_one : (text : List ℕ) (xs ys : List BlockLine) (r s : List ℕ) �
 block_of_one text xs ys r s bx by = stop_once text xs ys r s bx.begins by.begins (end_stuck text xs r bx) (end_stuck text ys s by)
 
 -- a text that begins with a block isn't cut, and no line is out of form
-pub block_no_fault : (text : List ℕ) (ys : List BlockLine) (s : List ℕ) → IsBlock text ys s → (fault : BlockFault) → fault ≢ NoMemory → BlockFails text fault → ⊥
+pub block_no_fault : (text : List ℕ) (ys : List BlockLine) (s : List ℕ) → IsBlock text ys s → (fault : BlockFault) → fault ≢ NoMemory → BlockFails text fault →
+    ⊥
 block_no_fault text ys s block NoMemory other fails = other refl
 block_no_fault text ys s block (Cut n) other (xs, r, size, cut) =
     cut.going (ap (last_place 0) (stop_once text xs ys r s cut.begins block.begins (cut_stuck text xs r cut) (end_stuck text ys s block)).0 ∙ block.ended)
 block_no_fault text ys s block (Form n) other (xs, r, line, after, size, bad) =
-    bad.going (ap (last_place 0) (stop_once text xs ys r s bad.begins block.begins (bad_stuck text xs r line after bad) (end_stuck text ys s block)).0 ∙ block.ended)
+    bad.going (ap (last_place 0) (stop_once text xs ys r s bad.begins block.begins (bad_stuck text xs r line after bad) (end_stuck text ys s block)).0 ∙
+    block.ended)
 
 same_length : (n m : ℕ) (xs ys : List BlockLine) → length xs ≡ n → length ys ≡ m → xs ≡ ys → n ≡ m
 same_length n m xs ys a b e = sym a ∙ ap length e ∙ b
@@ -147,8 +214,11 @@ one_fault text (Form n) NoMemory mx my fx fy = absurd (my refl)
 one_fault text (Cut n) (Cut m) mx my (xs, r, size, cut) (ys, s, long, other) =
     ap Cut (same_length n m xs ys size long (stop_once text xs ys r s cut.begins other.begins (cut_stuck text xs r cut) (cut_stuck text ys s other)).0)
 one_fault text (Cut n) (Form m) mx my (xs, r, size, cut) (ys, s, line, after, long, bad) =
-    absurd (cut_not_bad r s line after cut.cut bad.next (stop_once text xs ys r s cut.begins bad.begins (cut_stuck text xs r cut) (bad_stuck text ys s line after bad)).1)
+    absurd (cut_not_bad r s line after cut.cut bad.next (stop_once text xs ys r s cut.begins bad.begins (cut_stuck text xs r cut)
+    (bad_stuck text ys s line after bad)).1)
 one_fault text (Form n) (Cut m) mx my (xs, r, line, after, size, bad) (ys, s, long, cut) =
-    absurd (cut_not_bad s r line after cut.cut bad.next (sym (stop_once text xs ys r s bad.begins cut.begins (bad_stuck text xs r line after bad) (cut_stuck text ys s cut)).1))
+    absurd (cut_not_bad s r line after cut.cut bad.next
+    (sym (stop_once text xs ys r s bad.begins cut.begins (bad_stuck text xs r line after bad) (cut_stuck text ys s cut)).1))
 one_fault text (Form n) (Form m) mx my (xs, r, line, after, size, bad) (ys, s, next, behind, long, other) =
-    ap Form (same_length n m xs ys size long (stop_once text xs ys r s bad.begins other.begins (bad_stuck text xs r line after bad) (bad_stuck text ys s next behind other)).0)
+    ap Form (same_length n m xs ys size long (stop_once text xs ys r s bad.begins other.begins (bad_stuck text xs r line after bad)
+    (bad_stuck text ys s next behind other)).0)

@@ -1,6 +1,31 @@
 -- An outcome's lines are a block, and lines of a block are read one more at a time.
 use Rattle.std.proofs.Common.{◌≡◌, ℕ, ◌≤◌, true, List, [], ◌∷◌, ◌++◌, map, nat_le, refl, arith, rules, sym, ap, ◌∙◌, subst, append_assoc, append-nil}
-use Rattle.report_audit.proofs.Common.{and_from, lines_text, Outcome, IsBlock, IsBlockLine, kind_place, is_between, may_follow_at, follow_on, last_place, BlockLine, Expired, Lapsed, Alone, Shared, Out, Move, End, flat_map-append, map-append, All-append, All-cons, BeginsBlock, block_line_text}
+use Rattle.report_audit.proofs.Common.{
+  and_from,
+  lines_text,
+  Outcome,
+  IsBlock,
+  IsBlockLine,
+  kind_place,
+  is_between,
+  may_follow_at,
+  follow_on,
+  last_place,
+  BlockLine,
+  Expired,
+  Lapsed,
+  Alone,
+  Shared,
+  Out,
+  Move,
+  End,
+  flat_map-append,
+  map-append,
+  All-append,
+  All-cons,
+  BeginsBlock,
+  block_line_text,
+}
 use Rattle.dispatch_report.specs.declared.block_line.BlockLine.TheVariants.{Batch}
 use Rattle.dispatch_report.specs.Block.{row_as_line, trip_as_line, late_as_line, tree_line, lines_of_answer, lines_of, block_lines}
 use Rattle.std.specs.List.{All}
@@ -28,14 +53,16 @@ record Run (p : ℕ) (lines : List BlockLine) (low high : ℕ) : Type 0 where
   low_end : low ≤ last_place p lines
   high_end : last_place p lines ≤ high
 
-run_join : (p : ℕ) (xs ys : List BlockLine) (low high bottom top : ℕ) → Run p xs low high → ((q : ℕ) → low ≤ q → q ≤ high → Run q ys bottom top) → Run p (xs ++ ys) bottom top
+run_join : (p : ℕ) (xs ys : List BlockLine) (low high bottom top : ℕ) → Run p xs low high → ((q : ℕ) → low ≤ q → q ≤ high → Run q ys bottom top) →
+    Run p (xs ++ ys) bottom top
 run_join p xs ys low high bottom top rx ry = let r = ry (last_place p xs) rx.low_end rx.high_end in grind (arith, follow_join p xs ys, last_join p xs ys)
 
 between : (low high n : ℕ) → low ≤ n → n ≤ high → is_between low high n ≡ true
 between low high n l h = and_from (nat_le low n) (nat_le n high) (le-leb low n l) (le-leb n high h)
 
 -- a list of one kind
-kind_run : {X : Type 0} (K : X → BlockLine) (base place : ℕ) → base ≤ place → ((x : X) → kind_place (K x) ≡ place) → ((q : ℕ) (x : X) → base ≤ q → q ≤ place → may_follow_at q (K x) ≡ true) → (xs : List X) (p : ℕ) → base ≤ p → p ≤ place → Run p (map K xs) base place
+kind_run : {X : Type 0} (K : X → BlockLine) (base place : ℕ) → base ≤ place → ((x : X) → kind_place (K x) ≡ place) →
+    ((q : ℕ) (x : X) → base ≤ q → q ≤ place → may_follow_at q (K x) ≡ true) → (xs : List X) (p : ℕ) → base ≤ p → p ≤ place → Run p (map K xs) base place
 kind_run K base place fits at may [] p l h = record { order = refl; low_end = l; high_end = h }
 kind_run {X} K base place fits at may (x ∷ xs) p l h = grind (arith, nat_tests, at x, may p x, kind_run K base place fits at may xs (kind_place (K x)))
 
@@ -43,12 +70,15 @@ wider : (p : ℕ) (xs : List BlockLine) (low high bottom top : ℕ) → Run p xs
 wider p xs low high bottom top r l h = grind arith
 
 -- a list of one kind, behind a list before it
-then_kind : {X : Type 0} (K : X → BlockLine) (place : ℕ) (p : ℕ) (before : List BlockLine) (high : ℕ) → 1 ≤ place → high ≤ place → ((x : X) → kind_place (K x) ≡ place) → ((q : ℕ) (x : X) → 1 ≤ q → q ≤ place → may_follow_at q (K x) ≡ true) → Run p before 1 high → (xs : List X) → Run p (before ++ map K xs) 1 place
+then_kind : {X : Type 0} (K : X → BlockLine) (place : ℕ) (p : ℕ) (before : List BlockLine) (high : ℕ) → 1 ≤ place → high ≤ place →
+    ((x : X) → kind_place (K x) ≡ place) → ((q : ℕ) (x : X) → 1 ≤ q → q ≤ place → may_follow_at q (K x) ≡ true) → Run p before 1 high → (xs : List X) →
+    Run p (before ++ map K xs) 1 place
 then_kind K place p before high some le at may r xs =
     run_join p before (map K xs) 1 high 1 place r (λ q l h. kind_run K 1 place some at may xs q l (let a : q ≤ high = h in omega arith))
 
 -- the lists of a plan up to the rows
-graph_run : (p : ℕ) → 1 ≤ p → p ≤ 2 → (plan : Planned) → Run p (map Lapsed plan.lapsed ++ map late_as_line plan.late ++ map Alone plan.rv ++ map Shared plan.rr ++ map row_as_line plan.rows) 1 7
+graph_run : (p : ℕ) → 1 ≤ p → p ≤ 2 → (plan : Planned) → Run p (map Lapsed plan.lapsed ++ map late_as_line plan.late ++ map Alone plan.rv ++ map Shared plan.rr
+    ++ map row_as_line plan.rows) 1 7
 graph_run p l h plan =
     then_kind row_as_line 7 p _ 6 (omega arith) (omega arith) (λ x. refl) (λ q x. between 1 7 q)
     (then_kind Shared 6 p _ 5 (omega arith) (omega arith) (λ x. refl) (λ q x. between 1 6 q)
@@ -98,10 +128,12 @@ outcome_run batch outcome =
     (λ q l h. record { order = and_from (is_between 13 15 q) true (between 13 15 q l h) refl; low_end = omega arith; high_end = omega arith })
 
 -- the text of an outcome's block begins with the block of its lines
-pub outcome_block : (batch : ℕ) (outcome : Outcome) (rest : List ℕ) → All IsBlockLine (lines_of true batch outcome) → IsBlock (lines_text (block_lines true batch outcome) ++ rest) (lines_of true batch outcome) rest
+pub outcome_block : (batch : ℕ) (outcome : Outcome) (rest : List ℕ) → All IsBlockLine (lines_of true batch outcome) →
+    IsBlock (lines_text (block_lines true batch outcome) ++ rest) (lines_of true batch outcome) rest
 outcome_block batch outcome rest lawful = grind (arith, nat_tests, (outcome_run batch outcome))
 
-text_more : (lines : List BlockLine) (line : BlockLine) → lines_text (map block_line_text (lines ++ line ∷ [])) ≡ lines_text (map block_line_text lines) ++ (block_line_text line ++ 10 ∷ [])
+text_more : (lines : List BlockLine) (line : BlockLine) → lines_text (map block_line_text (lines ++ line ∷ [])) ≡ lines_text (map block_line_text lines) ++
+    (block_line_text line ++ 10 ∷ [])
 unfolding lines_text
 text_more lines line = search (rules, map-append, flat_map-append, append-nil)
 
@@ -110,13 +142,16 @@ pub record BlockSoFar (text : List ℕ) (lines : List BlockLine) (rest : List �
   pub begins : BeginsBlock text lines rest
   pub at : place ≡ last_place 0 lines
 
-pub block_more : {text : List ℕ} {lines : List BlockLine} {rest : List ℕ} {place : ℕ} {line : List ℕ} {after : List ℕ} (x : BlockLine) {new : List BlockLine} {next : ℕ} → BlockSoFar text lines rest place → rest ≡ line ++ 10 ∷ after → IsBlockLine x → line ≡ block_line_text x → may_follow_at place x ≡ true → next ≡ kind_place x → new ≡ lines ++ x ∷ [] → BlockSoFar text new after next
+pub block_more : {text : List ℕ} {lines : List BlockLine} {rest : List ℕ} {place : ℕ} {line : List ℕ} {after : List ℕ} (x : BlockLine) {new : List BlockLine}
+    {next : ℕ} → BlockSoFar text lines rest place → rest ≡ line ++ 10 ∷ after → IsBlockLine x → line ≡ block_line_text x → may_follow_at place x ≡ true →
+    next ≡ kind_place x → new ≡ lines ++ x ∷ [] → BlockSoFar text new after next
 block_more {text} {lines} {rest} {place} {line} {after} x {new} {next} so cut lawful is follows there e =
     subst (λ (ls : List BlockLine). BlockSoFar text ls after next) (sym e)
     (record {
       begins = record {
         whole =
-            so.begins.whole ∙ ap (λ r. lines_text (map block_line_text lines) ++ r) (cut ∙ ap (λ l. l ++ 10 ∷ after) is ∙ sym (append_assoc (block_line_text x) (10 ∷ []) after))
+            so.begins.whole ∙ ap (λ r. lines_text (map block_line_text lines) ++ r) (cut ∙ ap (λ l. l ++ 10 ∷ after) is ∙
+            sym (append_assoc (block_line_text x) (10 ∷ []) after))
             ∙ sym (append_assoc (lines_text (map block_line_text lines)) (block_line_text x ++ 10 ∷ []) after)
             ∙ ap (λ r. r ++ after) (sym (text_more lines x));
         lawful = All-append IsBlockLine lines (x ∷ []) so.begins.lawful (All-cons IsBlockLine x [] lawful (λ k d within. absurd (omega arith)));

@@ -1,5 +1,35 @@
 -- Texts of one thing behind another, and of whole lines.
-use Rattle.std.proofs.Common.{◌≡◌, ◌≢◌, ℕ, ◌≤◌, ◌<◌, ◌^◌, Bool, true, false, nat_eq, length, List, [], ◌∷◌, ◌++◌, Option, Some, None, MatchOption, Bor, decimal, refl, sym, ap, ◌∙◌, append_assoc, append-nil, arith, rules}
+use Rattle.std.proofs.Common.{
+  ◌≡◌,
+  ◌≢◌,
+  ℕ,
+  ◌≤◌,
+  ◌<◌,
+  ◌^◌,
+  Bool,
+  true,
+  false,
+  nat_eq,
+  length,
+  List,
+  [],
+  ◌∷◌,
+  ◌++◌,
+  Option,
+  Some,
+  None,
+  MatchOption,
+  Bor,
+  decimal,
+  refl,
+  sym,
+  ap,
+  ◌∙◌,
+  append_assoc,
+  append-nil,
+  arith,
+  rules,
+}
 use Rattle.report_audit.proofs.Common.{append_cancel_left, value_of, numbered, spaced, BeginsWith, BeginsWithNone, ends_number, both_texts, BothAre}
 use Rattle.report_audit.proofs.lemmas.lines.NumeralLemmas.{digits_unique, decimal_digits, decimal_value}
 
@@ -20,7 +50,8 @@ pair_is (a, b) (c, d) e f = cc
 
 module _ {X : Type 0} {t : X → List ℕ} {Is : X → Type 0} where
   -- a text that begins with a thing is that of this thing, and of what follows it
-  pub same_begin : {text : List ℕ} {x : X} {r : List ℕ} → EndsOnce t Is → BeginsWith t Is text x r → (y : X) (s : List ℕ) → Is y → ends_number s ≡ true → text ≡ t y ++ s → (x ≡ y) × (r ≡ s)
+  pub same_begin : {text : List ℕ} {x : X} {r : List ℕ} → EndsOnce t Is → BeginsWith t Is text x r → (y : X) (s : List ℕ) → Is y → ends_number s ≡ true →
+      text ≡ t y ++ s → (x ≡ y) × (r ≡ s)
   same_begin {text} {x} {r} form b y s is ends e = form.once text x y r s b (record { whole = e; lawful = is; ends = ends })
 
   -- a line that is the thing's text and nothing more
@@ -34,7 +65,8 @@ module _ {X : Type 0} {t : X → List ℕ} {Is : X → Type 0} where
   pub line_none : {line : List ℕ} → BeginsWithNone t Is line → (x : X) → Is x → line ≢ t x
   line_none none x is e = none x [] (begins_whole x is e)
 
-  pub line_more : {line : List ℕ} {x : X} {rest : List ℕ} → EndsOnce t Is → BeginsWith t Is line x rest → nat_eq (length rest) 0 ≡ false → (y : X) → Is y → line ≢ t y
+  pub line_more : {line : List ℕ} {x : X} {rest : List ℕ} → EndsOnce t Is → BeginsWith t Is line x rest → nat_eq (length rest) 0 ≡ false → (y : X) → Is y →
+      line ≢ t y
   line_more {line} {x} {rest} form b more y is e =
       let f : List ℕ → Bool = λ r. nat_eq (length r) 0 in
       let none : nat_eq (length rest) 0 ≡ true = ap f (form.once line x y rest [] b (begins_whole y is e)).1 in
@@ -45,21 +77,25 @@ module _ {X : Type 0} {t : X → List ℕ} {Is : X → Type 0} where
 
 -- one thing, and another behind it
 module _ {X Y : Type 0} {t : X → List ℕ} {Is : X → Type 0} {u : Y → List ℕ} (Us : Y → Type 0) (behind : StandsApart u) where
-  first_of_both : {text : List ℕ} (p : X × Y) {rest : List ℕ} → BeginsWith (both_texts t u) (BothAre Is Us) text p rest → BeginsWith t Is text p.0 (u p.1 ++ rest)
+  first_of_both : {text : List ℕ} (p : X × Y) {rest : List ℕ} → BeginsWith (both_texts t u) (BothAre Is Us) text p rest →
+      BeginsWith t Is text p.0 (u p.1 ++ rest)
   first_of_both p {rest} b = record { whole = b.whole ∙ append_assoc (t p.0) (u p.1) rest; lawful = b.lawful.0; ends = behind.apart p.1 rest b.ends }
 
   pub both_none_first : {text : List ℕ} → BeginsWithNone t Is text → BeginsWithNone (both_texts t u) (BothAre Is Us) text
   both_none_first none p rest b = none p.0 (u p.1 ++ rest) (first_of_both p b)
 
-  pub both_none_second : {text : List ℕ} {x : X} {after : List ℕ} → EndsOnce t Is → BeginsWith t Is text x after → BeginsWithNone u Us after → BeginsWithNone (both_texts t u) (BothAre Is Us) text
+  pub both_none_second : {text : List ℕ} {x : X} {after : List ℕ} → EndsOnce t Is → BeginsWith t Is text x after → BeginsWithNone u Us after →
+      BeginsWithNone (both_texts t u) (BothAre Is Us) text
   both_none_second {text} {x} {after} form first none p rest b =
       let same = form.once text x p.0 after (u p.1 ++ rest) first (first_of_both p b) in
       none p.1 rest (record { whole = same.1; lawful = b.lawful.1; ends = b.ends })
 
-pub both_some : {X Y : Type 0} {t : X → List ℕ} {Is : X → Type 0} {u : Y → List ℕ} {Us : Y → Type 0} {text : List ℕ} {x : X} {after : List ℕ} {y : Y} {rest : List ℕ} → BeginsWith t Is text x after → BeginsWith u Us after y rest → BeginsWith (both_texts t u) (BothAre Is Us) text (x, y) rest
+pub both_some : {X Y : Type 0} {t : X → List ℕ} {Is : X → Type 0} {u : Y → List ℕ} {Us : Y → Type 0} {text : List ℕ} {x : X} {after : List ℕ} {y : Y}
+    {rest : List ℕ} → BeginsWith t Is text x after → BeginsWith u Us after y rest → BeginsWith (both_texts t u) (BothAre Is Us) text (x, y) rest
 both_some {X} {Y} {t} {Is} {u} {Us} {text} {x} {after} {y} {rest} first second = search (rules, append_assoc)
 
-pub both_once : {X Y : Type 0} {t : X → List ℕ} {Is : X → Type 0} {u : Y → List ℕ} {Us : Y → Type 0} → StandsApart u → EndsOnce t Is → EndsOnce u Us → EndsOnce (both_texts t u) (BothAre Is Us)
+pub both_once : {X Y : Type 0} {t : X → List ℕ} {Is : X → Type 0} {u : Y → List ℕ} {Us : Y → Type 0} → StandsApart u → EndsOnce t Is → EndsOnce u Us →
+    EndsOnce (both_texts t u) (BothAre Is Us)
 both_once {X} {Y} {t} {Is} {u} {Us} behind first second =
     record {
       once = λ text p q r s bp bq.
@@ -70,7 +106,8 @@ both_once {X} {Y} {t} {Is} {u} {Us} behind first second =
     }
 
 -- one thing, and another behind it to the end of a line
-pub both_of_one : {X Y : Type 0} {t : X → List ℕ} {Is : X → Type 0} (u : Y → List ℕ) (Us : Y → Type 0) → ((y : Y) → ends_number (u y) ≡ true) → EndsOnce t Is → TextIsOfOne u Us → TextIsOfOne (both_texts t u) (BothAre Is Us)
+pub both_of_one : {X Y : Type 0} {t : X → List ℕ} {Is : X → Type 0} (u : Y → List ℕ) (Us : Y → Type 0) → ((y : Y) → ends_number (u y) ≡ true) → EndsOnce t Is →
+    TextIsOfOne u Us → TextIsOfOne (both_texts t u) (BothAre Is Us)
 both_of_one {X} {Y} {t} {Is} u Us ends form one p q ip iq e =
     let here : BeginsWith t Is (both_texts t u p) p.0 (u p.1) = record { whole = refl; lawful = ip.0; ends = ends p.1 } in
     let same = same_begin form here q.0 (u q.1) iq.0 (ends q.1) e in
@@ -84,7 +121,9 @@ module _ {X : Type 0} (t : X → List ℕ) (Is : X → Type 0) (words : List ℕ
   thing_behind : (after : List ℕ) (x : X) (rest : List ℕ) → text ≡ words ++ after → BeginsWith (λ y. words ++ t y) Is text x rest → BeginsWith t Is after x rest
   thing_behind after x rest e b = search (rules, append_cancel_left, append_assoc)
 
-  pub behind_read : (after : List ℕ) (r : Option (X × Bor (List ℕ))) → text ≡ words ++ after → MatchOption r (BeginsWithNone t Is after) (λ x. BeginsWith t Is after x.0 x.1.now) → MatchOption r (BeginsWithNone (λ x. words ++ t x) Is text) (λ x. BeginsWith (λ y. words ++ t y) Is text x.0 x.1.now)
+  pub behind_read : (after : List ℕ) (r : Option (X × Bor (List ℕ))) → text ≡ words ++ after →
+      MatchOption r (BeginsWithNone t Is after) (λ x. BeginsWith t Is after x.0 x.1.now) → MatchOption r (BeginsWithNone (λ x. words ++ t x) Is text)
+      (λ x. BeginsWith (λ y. words ++ t y) Is text x.0 x.1.now)
   behind_read after None e none = λ x rest b. none x rest (thing_behind after x rest e b)
   behind_read after (Some x) e some = search (rules, append_assoc)
 
@@ -128,7 +167,8 @@ unfolding numbered
 spaced_ends n = refl
 
 -- two numbers behind words
-pub pair_once : (words : List ℕ) (most other : ℕ) → most < 2 ^ 128 → other < 2 ^ 128 → EndsOnce (both_texts (numbered words) spaced) (BothAre (λ n. n ≤ most) (λ n. n ≤ other))
+pub pair_once : (words : List ℕ) (most other : ℕ) → most < 2 ^ 128 → other < 2 ^ 128 → EndsOnce (both_texts (numbered words) spaced)
+    (BothAre (λ n. n ≤ most) (λ n. n ≤ other))
 pair_once words most other small small_too = both_once spaced_apart (numbered_once words most small) (numbered_once _ other small_too)
 
 -- numbers below 2^64

@@ -9,7 +9,8 @@ record CountsTo (s e n count : ℕ) : Type 0 where
   among : s ≤ n → n ≤ e → count + s ≡ n
   high : e ≤ n → count + s ≡ e
 
-count_part : (test : ℕ → Bool) (s e most : ℕ) → s ≤ e → ((k : ℕ) → k < most → k < s → test k ≡ false) → ((k : ℕ) → k < most → s ≤ k → k < e → test k ≡ true) → ((k : ℕ) → k < most → e ≤ k → test k ≡ false)
+count_part : (test : ℕ → Bool) (s e most : ℕ) → s ≤ e → ((k : ℕ) → k < most → k < s → test k ≡ false) → ((k : ℕ) → k < most → s ≤ k → k < e → test k ≡ true) →
+    ((k : ℕ) → k < most → e ≤ k → test k ≡ false)
     → (n : ℕ) → n ≤ most → CountsTo s e n (count_below n test)
 count_part test s e most up before here after zero h = record { low = λ a. refl; among = λ a b. omega (arith, a); high = λ a. omega (arith, a, up) }
 count_part test s e most up before here after (suc n) h =
@@ -17,7 +18,12 @@ count_part test s e most up before here after (suc n) h =
     ⊎_elim
     (λ (less : n < s).
     let no = before n (omega (arith, h)) less in let zero_so_far = so_far.low (omega (arith, less)) in
-    rw no (record { low = λ a. omega (arith, zero_so_far); among = λ a b. omega (arith, zero_so_far, less, a); high = λ a. omega (arith, zero_so_far, less, a, up) }))
+    rw no (record {
+      low = λ a. omega (arith, zero_so_far);
+      among = λ a b. omega (arith, zero_so_far, less, a);
+      high =
+          λ a. omega (arith, zero_so_far, less, a, up);
+    }))
     (λ (ge : s ≤ n). ⊎_elim
     (λ (less : n < e).
     let yes = here n (omega (arith, h)) ge less in let known = so_far.among ge (omega (arith, less)) in
@@ -65,7 +71,8 @@ pub choices_more : (g : Graph) (v : ℕ) → v ≤ g.vehicles → product_below 
 choices_more g v h =
     let rises = product_rises (row_choices g) (λ w. one_or_more (count_below (length g.rows) (is_usable_by g every_row w))) (g.vehicles - v) v in
     let all : v + (g.vehicles - v) ≡ g.vehicles = omega (arith, h) in
-    let known : product_below v (row_choices g) ≤ product_below g.vehicles (row_choices g) = subst (λ (n : ℕ). product_below v (row_choices g) ≤ product_below n (row_choices g)) all rises in
+    let known : product_below v (row_choices g) ≤ product_below g.vehicles (row_choices g) =
+    subst (λ (n : ℕ). product_below v (row_choices g) ≤ product_below n (row_choices g)) all rises in
     let same = choices_all g in
     omega (arith, known, same)
   where

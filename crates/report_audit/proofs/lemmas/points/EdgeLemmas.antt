@@ -47,4 +47,5 @@ module _ (tau : ℕ → ℕ → ℕ) (settled : Settled) where
   pub one_rr_graph : (xs ys : List (ℕ × ℕ)) → IsRrGraph tau settled xs → IsRrGraph tau settled ys → xs ≡ ys
   one_rr_graph xs ys a b =
       same_members IsBefore pairs_strict (0, 0) xs ys
-      (in_order IsBefore pairs_strict (0, 0) xs a.order.rising) (in_order IsBefore pairs_strict (0, 0) ys b.order.rising) (pair_in xs ys a b) (pair_in ys xs b a)
+      (in_order IsBefore pairs_strict (0, 0) xs a.order.rising) (in_order IsBefore pairs_strict (0, 0) ys b.order.rising) (pair_in xs ys a b)
+      (pair_in ys xs b a)

@@ -1,5 +1,30 @@
 -- A batch has one trip graph, or more rows than are allowed, and never both.
-use Rattle.std.proofs.Common.{◌≡◌, ℕ, suc, ◌<◌, ◌≤◌, inl, inr, Bool, true, false, MatchBool, List, length, get_or, Contains, Option, Some, None, sym, ap, ◌∙◌, subst, add-one, arith}
+use Rattle.std.proofs.Common.{
+  ◌≡◌,
+  ℕ,
+  suc,
+  ◌<◌,
+  ◌≤◌,
+  inl,
+  inr,
+  Bool,
+  true,
+  false,
+  MatchBool,
+  List,
+  length,
+  get_or,
+  Contains,
+  Option,
+  Some,
+  None,
+  sym,
+  ap,
+  ◌∙◌,
+  subst,
+  add-one,
+  arith,
+}
 use Rattle.std.specs.Cmp.{IsTotalOrder}
 use Rattle.std.specs.declared.cmp.Ordering.TheVariants.{Less, Equal}
 use Rattle.std.proofs.lemmas.Bool.{cases_order}
@@ -31,7 +56,8 @@ rows_strict = record {
   transitive = row_total.trans;
 }
 
-pub rows_in_order : (rows : List TripRow) → ((k : ℕ) → suc k < length rows → row_cmp (get_or rows k no_row) (get_or rows (suc k) no_row) ≡ Less) → AreInOrder RowBefore rows_strict no_row rows
+pub rows_in_order : (rows : List TripRow) → ((k : ℕ) → suc k < length rows → row_cmp (get_or rows k no_row) (get_or rows (suc k) no_row) ≡ Less) →
+    AreInOrder RowBefore rows_strict no_row rows
 rows_in_order rows up = in_order RowBefore rows_strict no_row rows (λ k within. rw add-one (up k (omega arith)))
 
 -- rows that stand for the same vehicle and riders aren't one before the other
@@ -39,7 +65,8 @@ not_before : (a b : TripRow) → a.vehicle ≡ b.vehicle → a.riders.items ≡ 
 not_before a b v r h = rows_strict.irreflexive a (rw (← v, ← r) at h)
 
 -- a vehicle's row of these riders stands at one place
-pub one_place : (rows : List TripRow) → AreInOrder RowBefore rows_strict no_row rows → (v : ℕ) (trip : List ℕ) (j k : ℕ) → IsRowWith rows v trip j → IsRowWith rows v trip k → j ≡ k
+pub one_place : (rows : List TripRow) → AreInOrder RowBefore rows_strict no_row rows → (v : ℕ) (trip : List ℕ) (j k : ℕ) → IsRowWith rows v trip j →
+    IsRowWith rows v trip k → j ≡ k
 one_place rows up v trip j k a b = elim (cases_order j k) as (λ _. j ≡ k) [
   | inl same ↦ same
   | inr apart ↦ absurd (elim apart as (λ _. ⊥) [
@@ -53,7 +80,8 @@ one_least tau task a b least other = omega (arith, least.least other.stops other
 
 module _ (tau : ℕ → ℕ → ℕ) (settled : Settled) (most : ℕ) where
   -- whatever is a row stands among them
-  pub row_in : (rows : List TripRow) → AreRowsOf most tau settled rows → (row : TripRow) → IsRow most tau settled row.vehicle row.riders.items row.cost → Contains rows row
+  pub row_in : (rows : List TripRow) → AreRowsOf most tau settled rows → (row : TripRow) → IsRow most tau settled row.vehicle row.riders.items row.cost →
+      Contains rows row
   row_in rows are row is =
       let found = are.whole row.vehicle row.riders.items is.served in
       let k = found.0 in let at : IsRowWith rows row.vehicle row.riders.items k = found.1 in
@@ -63,19 +91,25 @@ module _ (tau : ℕ → ℕ → ℕ) (settled : Settled) (most : ℕ) where
       let same : there ≡ row = λ i. record { vehicle = at.own i; riders = record { items = at.trip i }; cost = cost i } in
       (k, at.within, get_or_default rows k row no_row at.within ∙ same)
 
-  row_also : (rows others : List TripRow) → AreRowsOf most tau settled rows → AreRowsOf most tau settled others → (row : TripRow) → Contains rows row → Contains others row
-  row_also rows others are also row found = row_in others also row (All-contains (λ (r : TripRow). IsRow most tau settled r.vehicle r.riders.items r.cost) rows row are.right found)
+  row_also : (rows others : List TripRow) → AreRowsOf most tau settled rows → AreRowsOf most tau settled others → (row : TripRow) → Contains rows row →
+      Contains others row
+  row_also rows others are also row found = row_in others also row (All-contains (λ (r : TripRow). IsRow most tau settled r.vehicle r.riders.items r.cost) rows
+      row are.right found)
 
-  pub one_list_of_rows : (rows others : List TripRow) → AreInOrder RowBefore rows_strict no_row rows → AreInOrder RowBefore rows_strict no_row others → AreRowsOf most tau settled rows → AreRowsOf most tau settled others → rows ≡ others
-  one_list_of_rows rows others up vp are also = same_members RowBefore rows_strict no_row rows others up vp (row_also rows others are also) (row_also others rows also are)
+  pub one_list_of_rows : (rows others : List TripRow) → AreInOrder RowBefore rows_strict no_row rows → AreInOrder RowBefore rows_strict no_row others →
+      AreRowsOf most tau settled rows → AreRowsOf most tau settled others → rows ≡ others
+  one_list_of_rows rows others up vp are also = same_members RowBefore rows_strict no_row rows others up vp (row_also rows others are also)
+      (row_also others rows also are)
 
-  pub no_more_rows : (rows : List TripRow) (allowed : ℕ) → AreInOrder RowBefore rows_strict no_row rows → AreRowsOf most tau settled rows → length rows ≤ allowed → HasMoreRows tau settled most allowed → ⊥
+  pub no_more_rows : (rows : List TripRow) (allowed : ℕ) → AreInOrder RowBefore rows_strict no_row rows → AreRowsOf most tau settled rows →
+      length rows ≤ allowed → HasMoreRows tau settled most allowed → ⊥
   no_more_rows rows allowed up are few more =
       omega (
         arith,
         more.more,
         no_longer RowBefore rows_strict no_row more.rows rows (rows_in_order more.rows more.order) up
-            (λ row found. row_in rows are row (All-contains (λ (r : TripRow). IsRow most tau settled r.vehicle r.riders.items r.cost) more.rows row more.right found)),
+            (λ row found. row_in rows are row (All-contains (λ (r : TripRow). IsRow most tau settled r.vehicle r.riders.items r.cost) more.rows row more.right
+            found)),
       )
 
 one_choice : (settled : Settled) (rows : List TripRow) → AreInOrder RowBefore rows_strict no_row rows → (held other : List (Option ℕ)) (v : ℕ) (late : Bool)
@@ -87,7 +121,8 @@ one_choice settled rows up held other v false a b =
     let same : a.0 ≡ b.0 = one_place rows up v (vehicle_at settled v).held.items a.0 b.0 a.2 b.2 in
     a.1 ∙ ap (λ (k : ℕ). Some k) same ∙ sym b.1
 
-pub one_held : (settled : Settled) (vehicles : ℕ) (rows : List TripRow) → AreInOrder RowBefore rows_strict no_row rows → (held other : List (Option ℕ)) → HoldRows settled vehicles rows held → HoldRows settled vehicles rows other → held ≡ other
+pub one_held : (settled : Settled) (vehicles : ℕ) (rows : List TripRow) → AreInOrder RowBefore rows_strict no_row rows → (held other : List (Option ℕ)) →
+    HoldRows settled vehicles rows held → HoldRows settled vehicles rows other → held ≡ other
 one_held settled vehicles rows up held other a b =
     ext_get_or None held other (a.count ∙ sym b.count)
     (λ v within. one_choice settled rows up held other v (vehicle_at settled v).late (a.each v (omega arith)) (b.each v (omega arith)))
@@ -103,8 +138,10 @@ module _ (settings : Settings) (tau : ℕ → ℕ → ℕ) (settled : Settled) w
   one_trip_graph a b are also =
       let up = graph_in_order a are in let vp = graph_in_order b also in
       let rows : a.rows ≡ b.rows = one_list_of_rows tau settled settings.trip a.rows b.rows up vp (rows_of a are) (rows_of b also) in
-      let hold : HoldRows settled (length settled.vehicles) b.rows a.held = subst (λ (r : List TripRow). HoldRows settled (length settled.vehicles) r a.held) rows (record { count = are.good.held.plan.sized ∙ are.vehicle_total; each = are.hold }) in
-      let held : a.held ≡ b.held = one_held settled (length settled.vehicles) b.rows vp a.held b.held hold (record { count = also.good.held.plan.sized ∙ also.vehicle_total; each = also.hold }) in
+      let hold : HoldRows settled (length settled.vehicles) b.rows a.held = subst (λ (r : List TripRow). HoldRows settled (length settled.vehicles) r a.held)
+      rows (record { count = are.good.held.plan.sized ∙ are.vehicle_total; each = are.hold }) in
+      let held : a.held ≡ b.held = one_held settled (length settled.vehicles) b.rows vp a.held b.held hold
+      (record { count = also.good.held.plan.sized ∙ also.vehicle_total; each = also.hold }) in
       λ k. record {
         vehicles = (are.vehicle_total ∙ sym also.vehicle_total) k;
         riders = (are.rider_total ∙ sym also.rider_total) k;

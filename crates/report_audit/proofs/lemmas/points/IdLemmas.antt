@@ -1,6 +1,24 @@
 -- In a snapshot nobody is in two places, so ids tell riders and passengers apart.
 use Rattle.std.proofs.Common.{◌≡◌, ℕ, zero, suc, ◌+◌, ◌-◌, ◌<◌, List, [], ◌∷◌, ◌++◌, length, get_or, map, None, refl, sym, ap, ◌∙◌, subst, arith, rules}
-use Rattle.report_audit.proofs.Common.{get_or_append_left, get_or-append_right, get_or-map, length-map, Batch, IsKept, IsOnce, riders_aboard, once_apart, IsPlaced, IsSettled, Settings, Settled, vehicle_at, IsSound, rider_id, HasOwnIds}
+use Rattle.report_audit.proofs.Common.{
+  get_or_append_left,
+  get_or-append_right,
+  get_or-map,
+  length-map,
+  Batch,
+  IsKept,
+  IsOnce,
+  riders_aboard,
+  once_apart,
+  IsPlaced,
+  IsSettled,
+  Settings,
+  Settled,
+  vehicle_at,
+  IsSound,
+  rider_id,
+  HasOwnIds,
+}
 use Rattle.std.specs.List.{flat_map}
 use Rattle.std.proofs.lemmas.List.{length-append}
 use Rattle.std.proofs.lemmas.Option.{slice_get-get_or}
@@ -42,9 +60,11 @@ no_rider = record { id = 0; origin = 0; destination = 0; time = 0; party = 1; pr
 abbrev aboard_of : Vehicle → List ℕ
 aboard_of x = map (λ (p : Passenger). p.rider) x.aboard.items
 
-module _ (settings : Settings) (points : List ℕ) (k places : ℕ) (tau : ℕ → ℕ → ℕ) (batch : Batch) (settled : Settled) (kept : IsKept batch) (is : IsSettled settings points tau batch settled) (sound : IsSound k places tau settled) where
+module _ (settings : Settings) (points : List ℕ) (k places : ℕ) (tau : ℕ → ℕ → ℕ) (batch : Batch) (settled : Settled) (kept : IsKept batch)
+    (is : IsSettled settings points tau batch settled) (sound : IsSound k places tau settled) where
   placed_at : (v : ℕ) → v < length settled.vehicles → IsPlaced settings points tau batch.sealed_at (get_or batch.vehicles v no_vehicle) (vehicle_at settled v)
-  placed_at v h = is.placed v (get_or batch.vehicles v no_vehicle) (slice_get-get_or batch.vehicles v no_vehicle (let n = is.vehicle_count in omega (arith, n, h)))
+  placed_at v h = is.placed v (get_or batch.vehicles v no_vehicle) (slice_get-get_or batch.vehicles v no_vehicle
+      (let n = is.vehicle_count in omega (arith, n, h)))
 
   ids_at : (v : ℕ) → v < length settled.vehicles → (vehicle_at settled v).aboard_ids.items ≡ aboard_of (get_or batch.vehicles v no_vehicle)
   ids_at v h = (placed_at v h).aboard_ids
@@ -55,7 +75,8 @@ module _ (settings : Settings) (points : List ℕ) (k places : ℕ) (tau : ℕ �
   told_id : (r : ℕ) → r < length settled.riders → rider_id settled r ≡ get_or (map (λ (x : Rider). x.id) batch.riders) r 0
   told_id r h = search (rules, no_rider, slice_get-get_or, get_or-map)
 
-  apart_at : (v r j : ℕ) → v < length settled.vehicles → r < length settled.riders → j < length (vehicle_at settled v).aboard_ids.items → rider_id settled r ≡ get_or (vehicle_at settled v).aboard_ids.items j 0 → ⊥
+  apart_at : (v r j : ℕ) → v < length settled.vehicles → r < length settled.riders → j < length (vehicle_at settled v).aboard_ids.items →
+      rider_id settled r ≡ get_or (vehicle_at settled v).aboard_ids.items j 0 → ⊥
   apart_at v r j h a b e =
       let ids = ids_at v h in
       let stands = stands_at v h in

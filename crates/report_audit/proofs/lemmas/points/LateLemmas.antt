@@ -15,13 +15,16 @@ module _ (points : List ℕ) (tau : ℕ → ℕ → ℕ) (settled : Settled) (v 
   pub late_order_of : (delay : ℕ) (lines : List PlannedStop) (late : IsLateOrder points tau settled v delay lines) → IsOrderOf task late.stops
   late_order_of delay lines late = subst (λ (t : Task). IsOrderOf t late.stops) (sym same) late.order
 
-  pub late_reaches : (delay : ℕ) (lines : List PlannedStop) (late : IsLateOrder points tau settled v delay lines) → (order : List Stop) → order ≡ late.stops → ReachesAll tau task order
+  pub late_reaches : (delay : ℕ) (lines : List PlannedStop) (late : IsLateOrder points tau settled v delay lines) → (order : List Stop) → order ≡ late.stops →
+      ReachesAll tau task order
   late_reaches delay lines late order e = search rules
 
-  pub late_delay : (delay : ℕ) (lines : List PlannedStop) (late : IsLateOrder points tau settled v delay lines) → (order : List Stop) → order ≡ late.stops → order_delay tau task order ≡ delay
+  pub late_delay : (delay : ℕ) (lines : List PlannedStop) (late : IsLateOrder points tau settled v delay lines) → (order : List Stop) → order ≡ late.stops →
+      order_delay tau task order ≡ delay
   late_delay delay lines late order e = search rules
 
-  pub late_from : (delay : ℕ) (lines : List PlannedStop) (order : List Stop) → IsOrderOf task order → ReachesAll tau task order → order_delay tau task order ≡ delay → IsLeast tau task delay
+  pub late_from : (delay : ℕ) (lines : List PlannedStop) (order : List Stop) → IsOrderOf task order → ReachesAll tau task order →
+      order_delay tau task order ≡ delay → IsLeast tau task delay
       → lines ≡ told_stops points tau settled v [] order → IsLateOrder points tau settled v delay lines
   late_from delay lines order is reaches has least told = record {
     stops = order;
@@ -33,7 +36,8 @@ module _ (points : List ℕ) (tau : ℕ → ℕ → ℕ) (settled : Settled) (v 
   }
 
   -- orders of least delay have one delay
-  pub one_late_delay : (delay : ℕ) (lines : List PlannedStop) → IsLateOrder points tau settled v delay lines → (least : ℕ) (order : List Stop) → IsOrderOf task order → ReachesAll tau task order
+  pub one_late_delay : (delay : ℕ) (lines : List PlannedStop) → IsLateOrder points tau settled v delay lines → (least : ℕ) (order : List Stop) →
+      IsOrderOf task order → ReachesAll tau task order
       → least ≡ order_delay tau task order → IsLeast tau task least → delay ≡ least
   one_late_delay delay lines late least order is reaches has none_less =
       let low = late.least order (subst (λ (t : Task). IsOrderOf t order) same is) (subst (λ (t : Task). ReachesAll tau t order) same reaches) in

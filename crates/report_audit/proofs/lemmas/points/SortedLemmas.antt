@@ -67,7 +67,8 @@ module _ {X : Type 0} (R : X → X → Type 0) (strict : IsStrict R) (e : X) whe
       | inr few ↦ few
     ]
 
-  pub same_members : (xs ys : List X) → AreInOrder xs → AreInOrder ys → ((z : X) → Contains xs z → Contains ys z) → ((z : X) → Contains ys z → Contains xs z) → xs ≡ ys
+  pub same_members : (xs ys : List X) → AreInOrder xs → AreInOrder ys → ((z : X) → Contains xs z → Contains ys z) → ((z : X) → Contains ys z → Contains xs z) →
+      xs ≡ ys
   same_members xs ys up vp there back =
       let few = no_longer xs ys up vp there in
       let many = no_longer ys xs vp up back in
@@ -84,7 +85,9 @@ pub nat_strict : IsStrict (λ (x y : ℕ). x < y)
 nat_strict = record { irreflexive = λ x h. omega arith; transitive = λ x y z h k. omega arith }
 
 -- rising numbers with the same members are the same
-pub same_rising : (xs ys : List ℕ) → ((k : ℕ) → k + 1 < length xs → get_or xs k 0 < get_or xs (k + 1) 0) → ((k : ℕ) → k + 1 < length ys → get_or ys k 0 < get_or ys (k + 1) 0)
+pub same_rising : (xs ys : List ℕ) → ((k : ℕ) → k + 1 < length xs → get_or xs k 0 < get_or xs (k + 1) 0) →
+    ((k : ℕ) → k + 1 < length ys → get_or ys k 0 < get_or ys (k + 1) 0)
     → ((x : ℕ) → Contains xs x → Contains ys x) → ((x : ℕ) → Contains ys x → Contains xs x) → xs ≡ ys
 same_rising xs ys up vp there back =
-    same_members (λ (x y : ℕ). x < y) nat_strict 0 xs ys (in_order (λ (x y : ℕ). x < y) nat_strict 0 xs up) (in_order (λ (x y : ℕ). x < y) nat_strict 0 ys vp) there back
+    same_members (λ (x y : ℕ). x < y) nat_strict 0 xs ys (in_order (λ (x y : ℕ). x < y) nat_strict 0 xs up) (in_order (λ (x y : ℕ). x < y) nat_strict 0 ys vp)
+    there back

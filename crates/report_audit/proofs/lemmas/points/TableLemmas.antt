@@ -8,7 +8,8 @@ use Rattle.road_network.specs.declared.arc.Arc.{Arc}
 use Rattle.road_network.specs.Walk.{IsTimeBetween}
 
 one_time : (arcs : List Arc) (a b s t : ℕ) → IsTimeBetween arcs a b s → IsTimeBetween arcs a b t → s ≡ t
-one_time arcs a b s t (inl x) (inl y) = let p = x.least y.walk y.walks in let q = y.least x.walk x.walks in let e = x.takes in let f = y.takes in omega (arith, p, q, e, f)
+one_time arcs a b s t (inl x) (inl y) = let p = x.least y.walk y.walks in let q = y.least x.walk x.walks in let e = x.takes in let f =
+    y.takes in omega (arith, p, q, e, f)
 one_time arcs a b s t (inl x) (inr y) = absurd (y.0 x.walk x.walks)
 one_time arcs a b s t (inr x) (inl y) = absurd (x.0 y.walk y.walks)
 one_time arcs a b s t (inr x) (inr y) = x.1 ∙ sym y.1

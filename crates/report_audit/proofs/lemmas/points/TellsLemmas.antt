@@ -1,6 +1,20 @@
 -- The row of which a trip tells.
 use Rattle.std.proofs.Common.{rules, ◌≡◌, ℕ, List, sym, ap, ◌∙◌, subst}
-use Rattle.report_audit.proofs.Common.{Graph, riders_at, cost_at, ChosenTrip, Settled, Stop, Task, trip_task, Serves, order_delay, vehicle_id, told_stops, TellsRow}
+use Rattle.report_audit.proofs.Common.{
+  Graph,
+  riders_at,
+  cost_at,
+  ChosenTrip,
+  Settled,
+  Stop,
+  Task,
+  trip_task,
+  Serves,
+  order_delay,
+  vehicle_id,
+  told_stops,
+  TellsRow,
+}
 
 module _ (points : List ℕ) (tau : ℕ → ℕ → ℕ) (settled : Settled) (graph : Graph) (v row : ℕ) (trip : ChosenTrip) (riders : List ℕ) (task : Task)
     (riders_are : riders ≡ riders_at graph row) (task_is : task ≡ trip_task settled v riders) where
@@ -16,6 +30,7 @@ module _ (points : List ℕ) (tau : ℕ → ℕ → ℕ) (settled : Settled) (gr
   pub tells_told : (tells : TellsRow points tau settled graph v row trip) → trip.stops.items ≡ told_stops points tau settled v riders tells.stops
   tells_told tells = tells.told ∙ ap (λ (rs : List ℕ). told_stops points tau settled v rs tells.stops) (sym riders_are)
 
-  pub tells_from : (stops : List Stop) → trip.vehicle ≡ vehicle_id settled v → trip.cost ≡ cost_at graph row → Serves tau task stops → order_delay tau task stops ≡ trip.cost
+  pub tells_from : (stops : List Stop) → trip.vehicle ≡ vehicle_id settled v → trip.cost ≡ cost_at graph row → Serves tau task stops →
+      order_delay tau task stops ≡ trip.cost
       → trip.stops.items ≡ told_stops points tau settled v riders stops → TellsRow points tau settled graph v row trip
   tells_from stops vehicle cost serves delay told = search (rules, same_task)

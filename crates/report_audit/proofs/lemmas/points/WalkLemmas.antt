@@ -1,5 +1,30 @@
 -- Items that stand beside the numbers that pass, read one after the other.
-use Rattle.std.proofs.Common.{rules, ◌≡◌, ◌↔◌, ℕ, suc, ◌+◌, ◌-◌, ◌<◌, ◌≤◌, Bool, true, false, List, [], ◌∷◌, length, get_or, drop, filter, refl, sym, ap, ◌∙◌, arith}
+use Rattle.std.proofs.Common.{
+  rules,
+  ◌≡◌,
+  ◌↔◌,
+  ℕ,
+  suc,
+  ◌+◌,
+  ◌-◌,
+  ◌<◌,
+  ◌≤◌,
+  Bool,
+  true,
+  false,
+  List,
+  [],
+  ◌∷◌,
+  length,
+  get_or,
+  drop,
+  filter,
+  refl,
+  sym,
+  ap,
+  ◌∙◌,
+  arith,
+}
 use Rattle.report_audit.proofs.Common.{AllZip, range_with_len, vehicle_read, vehicle_at, Settled, SettledVehicle}
 use Rattle.std.proofs.lemmas.List.{drop_all, drop_more, length-drop}
 
@@ -40,6 +65,7 @@ module _ {X : Type 0} (R : ℕ → X → Type 0) (p : ℕ → Bool) (n v : ℕ) 
       by (y ∷ ys) all long = absurd all
 
 -- whether the vehicle that is read is late
-pub late_read : (settled : Settled) (vehicles : List SettledVehicle) (v : ℕ) (x : SettledVehicle) (b : Bool) → vehicles ≡ settled.vehicles → v < length vehicles → (get_or vehicles v x).late ≡ b
+pub late_read : (settled : Settled) (vehicles : List SettledVehicle) (v : ℕ) (x : SettledVehicle) (b : Bool) → vehicles ≡ settled.vehicles →
+    v < length vehicles → (get_or vehicles v x).late ≡ b
     → (v < length settled.vehicles) × ((vehicle_at settled v).late ≡ b)
 late_read settled vehicles v x b e low is = search (rules, vehicle_read)

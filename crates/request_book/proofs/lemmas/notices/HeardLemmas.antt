@@ -30,7 +30,8 @@ all-heard-nothing [] = HaveHeard.none
 all-heard-nothing (n ∷ ns) = HaveHeard.kept n n ns ns (heard-nothing n) (all-heard-nothing ns)
 
 -- two lists of notices, one after the other
-pub all-heard-more : (xs ys : List Notice) (olds kepts lefts : List NotifierView) → HaveHeard xs olds kepts → HaveHeard ys kepts lefts → HaveHeard (xs ++ ys) olds lefts
+pub all-heard-more : (xs ys : List Notice) (olds kepts lefts : List NotifierView) → HaveHeard xs olds kepts → HaveHeard ys kepts lefts →
+    HaveHeard (xs ++ ys) olds lefts
 all-heard-more xs ys _ _ _ HaveHeard.none HaveHeard.none = HaveHeard.none
 all-heard-more xs ys _ _ _ (HaveHeard.kept a b olds kepts p ps) (HaveHeard.kept _ c _ lefts q qs) =
     HaveHeard.kept a c olds lefts (heard-more a b c xs ys p q) (all-heard-more xs ys olds kepts lefts ps qs)

@@ -1,11 +1,97 @@
 -- The batch of a seal: what it shows, and what it keeps.
-use Rattle.std.proofs.Common.{◌≡◌, ◌≢◌, ℕ, zero, suc, ◌+◌, ◌≤◌, Bool, true, false, cond, List, [], ◌∷◌, ◌++◌, length, map, Option, Some, None, refl, sym, ap, subst, ◌∙◌, arith, is_some, option_map, option_and_then, count_by, rules}
-use Rattle.request_book.proofs.Common.{cons_option, nat_tests, IsStrictlyIncreasing, length-map, sum_by-cons, IsKept, riders_aboard, Passenger, Rider, Vehicle, BookRider, Expired, State, IsConsistent, seat_in, look_up, by_key, KeysRise, KeysDiffer, changed_in_turn, pool_id, is_active, with_status, is_over, after_seal, batch_of, asking, over_id, find_rider, find_vehicle, find_passenger}
+use Rattle.std.proofs.Common.{
+  ◌≡◌,
+  ◌≢◌,
+  ℕ,
+  zero,
+  suc,
+  ◌+◌,
+  ◌≤◌,
+  Bool,
+  true,
+  false,
+  cond,
+  List,
+  [],
+  ◌∷◌,
+  ◌++◌,
+  length,
+  map,
+  Option,
+  Some,
+  None,
+  refl,
+  sym,
+  ap,
+  subst,
+  ◌∙◌,
+  arith,
+  is_some,
+  option_map,
+  option_and_then,
+  count_by,
+  rules,
+}
+use Rattle.request_book.proofs.Common.{
+  cons_option,
+  nat_tests,
+  IsStrictlyIncreasing,
+  length-map,
+  sum_by-cons,
+  IsKept,
+  riders_aboard,
+  Passenger,
+  Rider,
+  Vehicle,
+  BookRider,
+  Expired,
+  State,
+  IsConsistent,
+  seat_in,
+  look_up,
+  by_key,
+  KeysRise,
+  KeysDiffer,
+  changed_in_turn,
+  pool_id,
+  is_active,
+  with_status,
+  is_over,
+  after_seal,
+  batch_of,
+  asking,
+  over_id,
+  find_rider,
+  find_vehicle,
+  find_passenger,
+}
 use Rattle.std.specs.List.{filter_map, All, AllPairs}
 use Rattle.std.proofs.lemmas.List.{map-id, get_or-map}
 use Rattle.request_book.proofs.lemmas.register.IndexLemmas.{IsPool, pool_id-keeps}
 use Rattle.request_book.proofs.lemmas.register.SealLemmas.{changed_in_turn-marked, marked, map-agree}
-use Rattle.request_book.proofs.lemmas.values.KeyedLemmas.{IsOrderOf, look_up-here, look_up-later, look_up-nil, look_up-key, look_up-at, pairs_from_rise, look_up-keys, differ-keys, look_up-filter_map, KeysDiffer-filter_map, KeysDiffer-from_rise, by_key-order, filter_map-by_key, made-rise, made-found, look_up-map, length-by_key, length-filter_map, All-from_look_up, All-look_up}
+use Rattle.request_book.proofs.lemmas.values.KeyedLemmas.{
+  IsOrderOf,
+  look_up-here,
+  look_up-later,
+  look_up-nil,
+  look_up-key,
+  look_up-at,
+  pairs_from_rise,
+  look_up-keys,
+  differ-keys,
+  look_up-filter_map,
+  KeysDiffer-filter_map,
+  KeysDiffer-from_rise,
+  by_key-order,
+  filter_map-by_key,
+  made-rise,
+  made-found,
+  look_up-map,
+  length-by_key,
+  length-filter_map,
+  All-from_look_up,
+  All-look_up,
+}
 
 -- what is made of changed elements
 filter_map-map : {X Y Z : Type 0} (h : Y → Option Z) (g : X → Y) (xs : List X) → filter_map h (map g xs) ≡ filter_map (λ x. h (g x)) xs
@@ -36,13 +122,15 @@ module _ (wait now : ℕ) where
     pub active-listed : (k : ℕ) (r : BookRider) → find_rider k riders ≡ Some r → is_active r.status ≡ true → look_up (λ id. id) k pool ≡ Some k
     active-listed k r found on = search (rules, option_and_then, look_up-key)
 
-    pub batch-riders : filter_map (λ id. option_and_then (λ r. asking now (after_seal wait now r)) (find_rider id riders)) pool ≡ by_key (λ r. r.id) (filter_map (asking now) (map (after_seal wait now) riders))
+    pub batch-riders : filter_map (λ id. option_and_then (λ r. asking now (after_seal wait now r)) (find_rider id riders)) pool ≡ by_key (λ r. r.id)
+        (filter_map (asking now) (map (after_seal wait now) riders))
     batch-riders =
         filter_map-by_key (λ (r : BookRider). r.id) (λ (y : Rider). y.id) shows (λ r y e. (shown-is r y e).id) pool riders up differ
         (λ k r y found e. active-listed k r found (shown-is r y e).active)
         ∙ sym (ap (by_key (λ (y : Rider). y.id)) (filter_map-map (asking now) (after_seal wait now) riders))
 
-    pub batch-expired : filter_map (λ id. option_and_then (over_id wait now) (find_rider id riders)) pool ≡ by_key (λ id. id) (filter_map (over_id wait now) riders)
+    pub batch-expired : filter_map (λ id. option_and_then (over_id wait now) (find_rider id riders)) pool ≡ by_key (λ id. id)
+        (filter_map (over_id wait now) riders)
     batch-expired =
         filter_map-by_key (λ (r : BookRider). r.id) (λ n. n) (over_id wait now) (λ r n e. (over-is r n e).0) pool riders up differ
         (λ k r n found e. active-listed k r found (over-is r n e).1)
@@ -56,7 +144,14 @@ count_by-le p q more (x ∷ xs) =
 -- keys that rise are numbers that rise
 pub increasing_from_rise : {X : Type 0} (key : X → ℕ) (xs : List X) → KeysRise key xs → IsStrictlyIncreasing (map key xs)
 increasing_from_rise key [] up k in' = absurd (omega arith)
-increasing_from_rise key (x ∷ xs) up k in' = grind (arith, nat_tests, (length-map (x ∷ xs) key), (pairs_from_rise key (x ∷ xs) up k (k + 1) x), (get_or-map key (x ∷ xs) k x 0), (get_or-map key (x ∷ xs) (k + 1) x 0))
+increasing_from_rise key (x ∷ xs) up k in' = grind (
+  arith,
+  nat_tests,
+  (length-map (x ∷ xs) key),
+  (pairs_from_rise key (x ∷ xs) up k (k + 1) x),
+  (get_or-map key (x ∷ xs) k x 0),
+  (get_or-map key (x ∷ xs) (k + 1) x 0),
+)
 
 -- numbers of which none is found twice
 once_from_differ : (ids : List ℕ) → KeysDiffer (λ n. n) ids → AllPairs (λ id other. id ≢ other) ids
@@ -71,7 +166,8 @@ unfolding look_up
 look_up-append_none k [] ys a b = b
 look_up-append_none k (x ∷ xs) ys a b = grind (arith, nat_tests, look_up-append_none k xs ys)
 
-differ-append : (xs ys : List ℕ) → KeysDiffer (λ n. n) xs → KeysDiffer (λ n. n) ys → ((k : ℕ) → look_up (λ n. n) k xs ≡ Some k → look_up (λ n. n) k ys ≡ None) → KeysDiffer (λ n. n) (xs ++ ys)
+differ-append : (xs ys : List ℕ) → KeysDiffer (λ n. n) xs → KeysDiffer (λ n. n) ys → ((k : ℕ) → look_up (λ n. n) k xs ≡ Some k → look_up (λ n. n) k ys ≡ None) →
+    KeysDiffer (λ n. n) (xs ++ ys)
 unfolding KeysDiffer
 differ-append [] ys d e apart = e
 differ-append (x ∷ xs) ys d e apart = search (rules, (look_up-append_none x xs ys), look_up-here, look_up-later, (differ-append xs ys))
@@ -87,10 +183,12 @@ module _ (riders : List BookRider) where
   Seated vs = (x : ℕ) (v : Vehicle) (k : ℕ) → find_vehicle x vs ≡ Some v → find_passenger k v.aboard.items ≡ option_and_then (seat_in x) (find_rider k riders)
 
   -- a seat in one vehicle is no seat in another one
-  apart : (x y k : ℕ) (p : Passenger) → (x ≡ y → ⊥) → option_and_then (seat_in x) (find_rider k riders) ≡ Some p → option_and_then (seat_in y) (find_rider k riders) ≡ None
+  apart : (x y k : ℕ) (p : Passenger) → (x ≡ y → ⊥) → option_and_then (seat_in x) (find_rider k riders) ≡ Some p →
+      option_and_then (seat_in y) (find_rider k riders) ≡ None
   apart x y k p ne e = grind (arith, nat_tests)
 
-  nobody : (k : ℕ) (vs : List Vehicle) → KeysDiffer (λ v. v.id) vs → Seated vs → ((x : ℕ) (v : Vehicle) → find_vehicle x vs ≡ Some v → option_and_then (seat_in x) (find_rider k riders) ≡ None) → look_up (λ n. n) k (riders_aboard vs) ≡ None
+  nobody : (k : ℕ) (vs : List Vehicle) → KeysDiffer (λ v. v.id) vs → Seated vs → ((x : ℕ) (v : Vehicle) → find_vehicle x vs ≡ Some v →
+      option_and_then (seat_in x) (find_rider k riders) ≡ None) → look_up (λ n. n) k (riders_aboard vs) ≡ None
   unfolding KeysDiffer
   nobody k [] d seated none = look_up-nil (λ n. n) k
   nobody k (v ∷ vs) d seated none =
@@ -104,7 +202,8 @@ module _ (riders : List BookRider) where
       later : (x : ℕ) (u : Vehicle) → find_vehicle x vs ≡ Some u → find_vehicle x (v ∷ vs) ≡ Some u
       later x u found = look_up-later (λ (u : Vehicle). u.id) x v vs u d.0 found
 
-  aboard-differ : (vs : List Vehicle) → KeysDiffer (λ v. v.id) vs → Seated vs → ((x : ℕ) (v : Vehicle) → find_vehicle x vs ≡ Some v → KeysDiffer (λ p. p.rider) v.aboard.items) → KeysDiffer (λ n. n) (riders_aboard vs)
+  aboard-differ : (vs : List Vehicle) → KeysDiffer (λ v. v.id) vs → Seated vs → ((x : ℕ) (v : Vehicle) → find_vehicle x vs ≡ Some v →
+      KeysDiffer (λ p. p.rider) v.aboard.items) → KeysDiffer (λ n. n) (riders_aboard vs)
   unfolding KeysDiffer
   aboard-differ [] d seated each = tt
   aboard-differ (v ∷ vs) d seated each =
@@ -118,10 +217,13 @@ module _ (riders : List BookRider) where
       later : (x : ℕ) (u : Vehicle) → find_vehicle x vs ≡ Some u → find_vehicle x (v ∷ vs) ≡ Some u
       later x u found = look_up-later (λ (u : Vehicle). u.id) x v vs u d.0 found
 
-      elsewhere : (k : ℕ) (o : Option Passenger) → find_passenger k v.aboard.items ≡ o → look_up (λ n. n) k (map (λ p. p.rider) v.aboard.items) ≡ Some k → (x : ℕ) (u : Vehicle) → find_vehicle x vs ≡ Some u → option_and_then (seat_in x) (find_rider k riders) ≡ None
-      elsewhere k None e found x u at = let none = look_up-keys (λ (p : Passenger). p.rider) k v.aboard.items ∙ ap (option_map (λ (p : Passenger). p.rider)) e in absurd cc
+      elsewhere : (k : ℕ) (o : Option Passenger) → find_passenger k v.aboard.items ≡ o → look_up (λ n. n) k (map (λ p. p.rider) v.aboard.items) ≡ Some k →
+          (x : ℕ) (u : Vehicle) → find_vehicle x vs ≡ Some u → option_and_then (seat_in x) (find_rider k riders) ≡ None
+      elsewhere k None e found x u at = let none = look_up-keys (λ (p : Passenger). p.rider) k v.aboard.items ∙
+          ap (option_map (λ (p : Passenger). p.rider)) e in absurd cc
       elsewhere k (Some p) e found x u at =
-          apart v.id x k p (λ s. let none = subst (λ j. find_vehicle j vs ≡ None) s d.0 in absurd cc) (sym (seated v.id v k (look_up-here (λ (u : Vehicle). u.id) v.id v vs refl)) ∙ e)
+          apart v.id x k p (λ s. let none = subst (λ j. find_vehicle j vs ≡ None) s d.0 in absurd cc)
+          (sym (seated v.id v k (look_up-here (λ (u : Vehicle). u.id) v.id v vs refl)) ∙ e)
 
 -- the batch of a consistent state keeps what a snapshot keeps
 module _ (wait now : ℕ) (s : State) (kept : IsConsistent s) where
@@ -132,13 +234,16 @@ module _ (wait now : ℕ) (s : State) (kept : IsConsistent s) where
   shown-list = filter_map (shows wait now) s.riders
 
   shown-differ : KeysDiffer (λ r. r.id) shown-list
-  shown-differ = KeysDiffer-filter_map (λ (r : BookRider). r.id) (λ (y : Rider). y.id) (shows wait now) (λ r y e. (shown-is wait now r y e).id) s.riders kept.riders_differ
+  shown-differ = KeysDiffer-filter_map (λ (r : BookRider). r.id) (λ (y : Rider). y.id) (shows wait now) (λ r y e. (shown-is wait now r y e).id) s.riders
+      kept.riders_differ
 
   shown-found : (k : ℕ) (y : Rider) → look_up (λ r. r.id) k shown-list ≡ Some y → (r : BookRider) × (find_rider k s.riders ≡ Some r) × IsShown wait now r y
   shown-found k y found =
-      by (find_rider k s.riders) refl (sym (look_up-filter_map (λ (r : BookRider). r.id) (λ (y : Rider). y.id) (shows wait now) (λ r y e. (shown-is wait now r y e).id) k s.riders kept.riders_differ) ∙ found)
+      by (find_rider k s.riders) refl (sym (look_up-filter_map (λ (r : BookRider). r.id) (λ (y : Rider). y.id) (shows wait now)
+      (λ r y e. (shown-is wait now r y e).id) k s.riders kept.riders_differ) ∙ found)
     where
-      by : (o : Option BookRider) → find_rider k s.riders ≡ o → option_and_then (shows wait now) o ≡ Some y → (r : BookRider) × (find_rider k s.riders ≡ Some r) × IsShown wait now r y
+      by : (o : Option BookRider) → find_rider k s.riders ≡ o → option_and_then (shows wait now) o ≡ Some y →
+          (r : BookRider) × (find_rider k s.riders ≡ Some r) × IsShown wait now r y
       by None e f = absurd cc
       by (Some r) e f = (r, e, shown-is wait now r y f)
 
@@ -155,7 +260,8 @@ module _ (wait now : ℕ) (s : State) (kept : IsConsistent s) where
   batch-found k y found = search (rules, shown-found, by_key-order, shown-differ, batch-list-is)
 
   pub batch-each : (P : Rider → Type 0) → ((k : ℕ) (r : BookRider) (y : Rider) → find_rider k s.riders ≡ Some r → IsShown wait now r y → P y) → All P batch-list
-  batch-each P each = All-from_look_up (λ (y : Rider). y.id) P batch-list (KeysDiffer-from_rise (λ (y : Rider). y.id) batch-list batch-rise) (λ k y found. let at = batch-found k y found in each k at.0 y at.1 at.2)
+  batch-each P each = All-from_look_up (λ (y : Rider). y.id) P batch-list (KeysDiffer-from_rise (λ (y : Rider). y.id) batch-list batch-rise)
+      (λ k y found. let at = batch-found k y found in each k at.0 y at.1 at.2)
 
   few : length batch-list ≤ 1000
   few = search (rules, count_by-le, is_some, batch-list-is, length-by_key, length-filter_map)
@@ -164,10 +270,12 @@ module _ (wait now : ℕ) (s : State) (kept : IsConsistent s) where
   expired-list = by_key (λ n. n) (filter_map (over_id wait now) s.riders)
 
   expired-order : IsOrderOf (λ n. n) (filter_map (over_id wait now) s.riders) expired-list
-  expired-order = by_key-order (λ n. n) (filter_map (over_id wait now) s.riders) (KeysDiffer-filter_map (λ (r : BookRider). r.id) (λ n. n) (over_id wait now) (λ r n e. (over-is wait now r n e).0) s.riders kept.riders_differ)
+  expired-order = by_key-order (λ n. n) (filter_map (over_id wait now) s.riders) (KeysDiffer-filter_map (λ (r : BookRider). r.id) (λ n. n) (over_id wait now)
+      (λ r n e. (over-is wait now r n e).0) s.riders kept.riders_differ)
 
   expired-found : (k : ℕ) → look_up (λ n. n) k expired-list ≡ option_and_then (over_id wait now) (find_rider k s.riders)
-  expired-found k = expired-order.found k ∙ look_up-filter_map (λ (r : BookRider). r.id) (λ n. n) (over_id wait now) (λ r n e. (over-is wait now r n e).0) k s.riders kept.riders_differ
+  expired-found k = expired-order.found k ∙ look_up-filter_map (λ (r : BookRider). r.id) (λ n. n) (over_id wait now) (λ r n e. (over-is wait now r n e).0) k
+      s.riders kept.riders_differ
 
   -- whose wait is over doesn't wait in the batch
   unlisted : (k : ℕ) → look_up (λ n. n) k expired-list ≡ Some k → look_up (λ n. n) k (map (λ r. r.id) batch-list) ≡ None
@@ -178,7 +286,8 @@ module _ (wait now : ℕ) (s : State) (kept : IsConsistent s) where
 
   passengers-differ : KeysDiffer (λ n. n) (riders_aboard s.vehicles)
   passengers-differ =
-      aboard-differ s.riders s.vehicles vehicles-differ batch-seated (λ x v found. All-look_up (λ (v : Vehicle). v.id) (λ (u : Vehicle). KeysDiffer (λ p. p.rider) u.aboard.items) x s.vehicles v kept.passengers found)
+      aboard-differ s.riders s.vehicles vehicles-differ batch-seated (λ x v found. All-look_up (λ (v : Vehicle). v.id)
+      (λ (u : Vehicle). KeysDiffer (λ p. p.rider) u.aboard.items) x s.vehicles v kept.passengers found)
 
   batch-differ : KeysDiffer (λ n. n) (map (λ r. r.id) batch-list ++ riders_aboard s.vehicles)
   batch-differ =
@@ -187,7 +296,8 @@ module _ (wait now : ℕ) (s : State) (kept : IsConsistent s) where
       passengers-differ
       (λ k found. nobody s.riders k s.vehicles vehicles-differ batch-seated (λ x v at. waiting k (look_up (λ (y : Rider). y.id) k batch-list) refl found x))
     where
-      waiting : (k : ℕ) (o : Option Rider) → look_up (λ r. r.id) k batch-list ≡ o → look_up (λ n. n) k (map (λ r. r.id) batch-list) ≡ Some k → (x : ℕ) → option_and_then (seat_in x) (find_rider k s.riders) ≡ None
+      waiting : (k : ℕ) (o : Option Rider) → look_up (λ r. r.id) k batch-list ≡ o → look_up (λ n. n) k (map (λ r. r.id) batch-list) ≡ Some k → (x : ℕ) →
+          option_and_then (seat_in x) (find_rider k s.riders) ≡ None
       waiting k None e found x = let none = look_up-keys (λ (y : Rider). y.id) k batch-list ∙ ap (option_map (λ (y : Rider). y.id)) e in absurd cc
       waiting k (Some y) e found x = let at = batch-found k y e in ap (option_and_then (seat_in x)) at.1 ∙ seatless at.0 x at.2.active
 
@@ -198,7 +308,8 @@ module _ (wait now : ℕ) (s : State) (kept : IsConsistent s) where
   batch-once : AllPairs (λ id other. id ≢ other) (expired-list ++ (map (λ r. r.id) batch-list ++ riders_aboard s.vehicles))
   batch-once =
       once_from_differ (expired-list ++ (map (λ r. r.id) batch-list ++ riders_aboard s.vehicles))
-      (differ-append expired-list (map (λ r. r.id) batch-list ++ riders_aboard s.vehicles) (KeysDiffer-from_rise (λ n. n) expired-list expired-order.rise) batch-differ
+      (differ-append expired-list (map (λ r. r.id) batch-list ++ riders_aboard s.vehicles) (KeysDiffer-from_rise (λ n. n) expired-list expired-order.rise)
+      batch-differ
       (λ k listed. look_up-append_none k (map (λ r. r.id) batch-list) (riders_aboard s.vehicles) (unlisted k listed)
       (nobody s.riders k s.vehicles vehicles-differ batch-seated (λ x v at. over-seatless k listed x))))
 
@@ -225,18 +336,22 @@ module _ (wait now : ℕ) where
 
   module _ (riders : List BookRider) (differ : KeysDiffer (λ r. r.id) riders) where
     -- who expires in turn
-    pub expired-map : changed_in_turn (λ r. r.id) (with_status Expired) (by_key (λ id. id) (filter_map (over_id wait now) riders)) riders ≡ map (after_seal wait now) riders
+    pub expired-map : changed_in_turn (λ r. r.id) (with_status Expired) (by_key (λ id. id) (filter_map (over_id wait now) riders)) riders ≡ map
+        (after_seal wait now) riders
     unfolding marked
     expired-map =
         changed_in_turn-marked (λ r. r.id) (with_status Expired) (λ r. refl) (λ r. refl) (by_key (λ id. id) (filter_map (over_id wait now) riders)) riders
-        ∙ map-agree (λ r. r.id) (marked (λ r. r.id) (with_status Expired) (by_key (λ id. id) (filter_map (over_id wait now) riders))) (after_seal wait now) riders differ (λ k r found. ap (λ b. cond b (with_status Expired r) r) (over k r found))
+        ∙ map-agree (λ r. r.id) (marked (λ r. r.id) (with_status Expired) (by_key (λ id. id) (filter_map (over_id wait now) riders))) (after_seal wait now)
+        riders differ (λ k r found. ap (λ b. cond b (with_status Expired r) r) (over k r found))
       where
         own : (r : BookRider) (n : ℕ) → over_id wait now r ≡ Some n → n ≡ r.id
         own r n e = (over-is wait now r n e).0
 
-        over : (k : ℕ) (r : BookRider) → find_rider k riders ≡ Some r → is_some (look_up (λ n. n) r.id (by_key (λ id. id) (filter_map (over_id wait now) riders))) ≡ is_over wait now r
+        over : (k : ℕ) (r : BookRider) → find_rider k riders ≡ Some r → is_some (look_up (λ n. n) r.id
+            (by_key (λ id. id) (filter_map (over_id wait now) riders))) ≡ is_over wait now r
         over k r found =
-            let order = by_key-order (λ n. n) (filter_map (over_id wait now) riders) (KeysDiffer-filter_map (λ (r : BookRider). r.id) (λ n. n) (over_id wait now) own riders differ) in
+            let order = by_key-order (λ n. n) (filter_map (over_id wait now) riders) (KeysDiffer-filter_map (λ (r : BookRider). r.id) (λ n. n)
+            (over_id wait now) own riders differ) in
             let made = order.found r.id ∙ look_up-filter_map (λ (r : BookRider). r.id) (λ n. n) (over_id wait now) own r.id riders differ in
             let same = look_up-key (λ (r : BookRider). r.id) k riders r found in
             let at : find_rider r.id riders ≡ Some r = cc in

@@ -1,18 +1,93 @@
 -- How a register finds and changes its riders and vehicles.
-use Rattle.std.proofs.Common.{◌≡◌, ℕ, ◌+◌, ◌<◌, ◌≤◌, Bool, true, false, cond, eqb, List, [], ◌∷◌, ◌++◌, length, get_or, drop, take, map, set, Option, None, Some, Result, Ok, Err, refl, sym, ap, subst, ◌∙◌, inl, inr, arith, MatchOption, MatchResult, position, is_some}
-use Rattle.request_book.proofs.Common.{take_more, map-append, changed_at, nat_tests, cond-false, list_any, IsBinarySearchResult, cases_lt, at_drop_more, drop_all, searched, look_up, placed, without, KeysRise, KeysDiffer, first_of, BookRefusal}
+use Rattle.std.proofs.Common.{
+  ◌≡◌,
+  ℕ,
+  ◌+◌,
+  ◌<◌,
+  ◌≤◌,
+  Bool,
+  true,
+  false,
+  cond,
+  eqb,
+  List,
+  [],
+  ◌∷◌,
+  ◌++◌,
+  length,
+  get_or,
+  drop,
+  take,
+  map,
+  set,
+  Option,
+  None,
+  Some,
+  Result,
+  Ok,
+  Err,
+  refl,
+  sym,
+  ap,
+  subst,
+  ◌∙◌,
+  inl,
+  inr,
+  arith,
+  MatchOption,
+  MatchResult,
+  position,
+  is_some,
+}
+use Rattle.request_book.proofs.Common.{
+  take_more,
+  map-append,
+  changed_at,
+  nat_tests,
+  cond-false,
+  list_any,
+  IsBinarySearchResult,
+  cases_lt,
+  at_drop_more,
+  drop_all,
+  searched,
+  look_up,
+  placed,
+  without,
+  KeysRise,
+  KeysDiffer,
+  first_of,
+  BookRefusal,
+}
 use Rattle.std.proofs.lemmas.List.{get_or_default}
 use Rattle.std.specs.Ordering.{nat_cmp}
 use Rattle.std.specs.List.{remove, insert}
-use Rattle.request_book.proofs.lemmas.values.KeyedLemmas.{look_up-position, look_up-list_any, look_up-take, pairs_from_rise, insert-placed, set-changed_at, changed_at-absent, remove-without_key, look_up-at, look_up-nil, look_up-there, without_key-absent, look_up-nowhere, KeysDiffer-from_rise}
+use Rattle.request_book.proofs.lemmas.values.KeyedLemmas.{
+  look_up-position,
+  look_up-list_any,
+  look_up-take,
+  pairs_from_rise,
+  insert-placed,
+  set-changed_at,
+  changed_at-absent,
+  remove-without_key,
+  look_up-at,
+  look_up-nil,
+  look_up-there,
+  without_key-absent,
+  look_up-nowhere,
+  KeysDiffer-from_rise,
+}
 
 -- the first refusal is the first of the rest after one that doesn't hold
-pub first_of-more : (xs : List (Option BookRefusal)) (i : ℕ) (d : Option BookRefusal) → i < length xs → get_or xs i d ≡ None → first_of (drop (i + 1) xs) ≡ first_of (drop i xs)
+pub first_of-more : (xs : List (Option BookRefusal)) (i : ℕ) (d : Option BookRefusal) → i < length xs → get_or xs i d ≡ None →
+    first_of (drop (i + 1) xs) ≡ first_of (drop i xs)
 unfolding first_of
 first_of-more xs i d in' none =
     sym (at_drop_more first_of xs i d in' ∙ ap (λ o. first_of (o ∷ drop (i + 1) xs)) none)
 
-pub first_of-here : (xs : List (Option BookRefusal)) (i : ℕ) (d : Option BookRefusal) → i < length xs → is_some (get_or xs i d) ≡ true → first_of (drop i xs) ≡ get_or xs i d
+pub first_of-here : (xs : List (Option BookRefusal)) (i : ℕ) (d : Option BookRefusal) → i < length xs → is_some (get_or xs i d) ≡ true →
+    first_of (drop i xs) ≡ get_or xs i d
 unfolding first_of
 first_of-here xs i d in' holds =
     let one : first_of (get_or xs i d ∷ drop (i + 1) xs) ≡ get_or xs i d = grind arith in
@@ -34,7 +109,8 @@ module _ {X : Type 0} (key : X → ℕ) (k : ℕ) (t : ℕ → Bool) (tests : (j
       (found.0, found.1)
 
   -- a write at the place that the keys tell, and no write where they tell none
-  pub write_found : (f : X → X) (keys : List ℕ) (i : ℕ) (x y : X) → keys ≡ map key xs → Some i ≡ position t keys → x ≡ get_or xs i x → y ≡ f x → set xs i y ≡ changed_at key k f xs
+  pub write_found : (f : X → X) (keys : List ℕ) (i : ℕ) (x y : X) → keys ≡ map key xs → Some i ≡ position t keys → x ≡ get_or xs i x → y ≡ f x →
+      set xs i y ≡ changed_at key k f xs
   write_found f keys i x y e at read wrote =
       let found = look_up-position key k t tests xs i differ (sym (ap (position t) e) ∙ sym at) in
       ap (set xs i) (wrote ∙ ap f read) ∙ set-changed_at key f k i xs x differ found.0 (found.2 x)
@@ -45,7 +121,8 @@ module _ {X : Type 0} (key : X → ℕ) (k : ℕ) (t : ℕ → Bool) (tests : (j
 -- what a binary search in numbers that rise answers
 module _ (xs : List ℕ) (x : ℕ) (rise : KeysRise (λ n. n) xs) where
   pub sought : (r : Result ℕ ℕ) → IsBinarySearchResult (λ y. nat_cmp y x) xs r
-      → MatchResult r (λ i. (i < length xs) × (get_or xs i 0 ≡ x)) (λ i. (i ≤ length xs) × ((k : ℕ) → k < i → get_or xs k 0 < x) × ((k : ℕ) → i ≤ k → k < length xs → x < get_or xs k 0))
+      → MatchResult r (λ i. (i < length xs) × (get_or xs i 0 ≡ x)) (λ i. (i ≤ length xs) × ((k : ℕ) → k < i → get_or xs k 0 < x) ×
+      ((k : ℕ) → i ≤ k → k < length xs → x < get_or xs k 0))
   sought r answer = searched xs x r answer (λ i j le in'. grind (arith, pairs_from_rise (λ n. n) xs rise i j 0))
 
   pub insert_sought : (i : ℕ) → IsBinarySearchResult (λ y. nat_cmp y x) xs (Err i) → insert xs i x ≡ placed (λ n. n) x xs
@@ -80,7 +157,8 @@ pub inserted : (ks : List ℕ) (x : ℕ) → list_any (λ id. eqb id x) ks ≡ f
 inserted ks x none = cond-false (list_any (λ id. eqb x id) ks) ks (ks ++ x ∷ []) (list_any-agree (λ id. eqb x id) (λ id. eqb id x) (eqb_comm x) ks ∙ none)
 
 -- keys that are listed one after the other
-module _ {X : Type 0} (key : X → ℕ) (xs : List X) (i : ℕ) (x : X) (keys : List ℕ) (within : i < length xs) (read : x ≡ get_or xs i x) (was : keys ≡ map key (take i xs)) where
+module _ {X : Type 0} (key : X → ℕ) (xs : List X) (i : ℕ) (x : X) (keys : List ℕ) (within : i < length xs) (read : x ≡ get_or xs i x)
+    (was : keys ≡ map key (take i xs)) where
   pub listed-new : KeysDiffer key xs → list_any (λ j. eqb j (key x)) keys ≡ false
   listed-new differ =
       ap (list_any (λ j. eqb j (key x))) was
@@ -94,7 +172,8 @@ module _ {X : Type 0} (key : X → ℕ) (xs : List X) (i : ℕ) (x : X) (keys : 
 
 -- a passenger is sought seat by seat
 module _ {X : Type 0} (key : X → ℕ) where
-  pub look_up-drop_more : (k i : ℕ) (xs : List X) (d : X) → i < length xs → (key (get_or xs i d) ≡ k → ⊥) → look_up key k (drop (i + 1) xs) ≡ look_up key k (drop i xs)
+  pub look_up-drop_more : (k i : ℕ) (xs : List X) (d : X) → i < length xs → (key (get_or xs i d) ≡ k → ⊥) →
+      look_up key k (drop (i + 1) xs) ≡ look_up key k (drop i xs)
   look_up-drop_more k i xs d in' ne = sym (at_drop_more (look_up key k) xs i d in' ∙ look_up-there key k (get_or xs i d) (drop (i + 1) xs) ne)
 
   pub look_up-drop_all : (k i : ℕ) (xs : List X) → length xs ≤ i → look_up key k (drop i xs) ≡ None

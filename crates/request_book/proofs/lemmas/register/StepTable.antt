@@ -1,6 +1,47 @@
 -- The step table is what the register works: refusals as a list of those that hold.
 use Rattle.std.proofs.Common.{rules, arith, ◌≡◌, ℕ, true, false, List, Option, Some, None, sym, ap, subst, ◌∙◌, is_some}
-use Rattle.request_book.proofs.Common.{one_more, Command, Answer, BookRefusal, Reply, Accepted, Cancelled, Placed, Picked, Dropped, Sealed, Closed, BookRider, State, would_seal, batch_of, sealed_state, submit, cancel, report, pickup, dropoff, seal, close, answered, step, closed_state, after_answer, without, first_of, submit_step, cancel_step, report_step, pickup_step, dropoff_step, seal_refusal, seal_step, close_step, table_step, batch_unless}
+use Rattle.request_book.proofs.Common.{
+  one_more,
+  Command,
+  Answer,
+  BookRefusal,
+  Reply,
+  Accepted,
+  Cancelled,
+  Placed,
+  Picked,
+  Dropped,
+  Sealed,
+  Closed,
+  BookRider,
+  State,
+  would_seal,
+  batch_of,
+  sealed_state,
+  submit,
+  cancel,
+  report,
+  pickup,
+  dropoff,
+  seal,
+  close,
+  answered,
+  step,
+  closed_state,
+  after_answer,
+  without,
+  first_of,
+  submit_step,
+  cancel_step,
+  report_step,
+  pickup_step,
+  dropoff_step,
+  seal_refusal,
+  seal_step,
+  close_step,
+  table_step,
+  batch_unless,
+}
 use Rattle.request_book.specs.declared.values.command.Command.TheVariants as command
 
 submit-table : (nodes : List ℕ) (s : State) (r : BookRider) → answered s Accepted (submit nodes s r) ≡ submit_step nodes s r
@@ -11,7 +52,8 @@ cancel-table : (s : State) (rider : ℕ) → answered s Cancelled (cancel s ride
 unfolding cancel cancel_step first_of
 cancel-table s rider = grind arith
 
-report-table : (nodes : List ℕ) (s : State) (vehicle node time : ℕ) → answered s Placed (report nodes s vehicle node time) ≡ report_step nodes s vehicle node time
+report-table : (nodes : List ℕ) (s : State) (vehicle node time : ℕ) → answered s Placed (report nodes s vehicle node time) ≡ report_step nodes s vehicle node
+    time
 unfolding report report_step first_of
 report-table nodes s vehicle node time = grind arith
 
@@ -59,5 +101,6 @@ by-table P nodes wait s c = subst P (sym (step-table nodes wait s c))
 pub would_seal-refused : (wait : ℕ) (s : State) (now : ℕ) (o : Option BookRefusal) → o ≡ seal_refusal s now → is_some o ≡ true → None ≡ would_seal wait s now
 would_seal-refused wait s now o e some = grind (arith, would_seal-table wait s now)
 
-pub would_seal-open : (wait : ℕ) (s : State) (now : ℕ) (o : Option BookRefusal) → o ≡ seal_refusal s now → is_some o ≡ false → Some (batch_of wait s now) ≡ would_seal wait s now
+pub would_seal-open : (wait : ℕ) (s : State) (now : ℕ) (o : Option BookRefusal) → o ≡ seal_refusal s now → is_some o ≡ false →
+    Some (batch_of wait s now) ≡ would_seal wait s now
 would_seal-open wait s now o e none = grind (arith, would_seal-table wait s now)

@@ -1,6 +1,66 @@
 -- What the words on lists with keys come to.
-use Rattle.std.proofs.Common.{◌≡◌, ℕ, zero, suc, ◌+◌, ◌<◌, ◌≤◌, Bool, cond, eqb, ltb, List, [], ◌∷◌, ◌++◌, length, get_or, set, map, take, Option, None, Some, refl, sym, ap, subst, ◌∙◌, inl, inr, arith, option_map, option_and_then, position, is_some, count_by, rules}
-use Rattle.request_book.proofs.Common.{cons_option, list_any, IsStrictlyIncreasing, length-map, position-Some, sum_by-cons, All-nil, All-cons, All-head, All-tail, cases_eq, cond_both, nat_tests, look_up, changed_at, without, AllAbove, KeysRise, KeysDiffer, placed, by_key}
+use Rattle.std.proofs.Common.{
+  ◌≡◌,
+  ℕ,
+  zero,
+  suc,
+  ◌+◌,
+  ◌<◌,
+  ◌≤◌,
+  Bool,
+  cond,
+  eqb,
+  ltb,
+  List,
+  [],
+  ◌∷◌,
+  ◌++◌,
+  length,
+  get_or,
+  set,
+  map,
+  take,
+  Option,
+  None,
+  Some,
+  refl,
+  sym,
+  ap,
+  subst,
+  ◌∙◌,
+  inl,
+  inr,
+  arith,
+  option_map,
+  option_and_then,
+  position,
+  is_some,
+  count_by,
+  rules,
+}
+use Rattle.request_book.proofs.Common.{
+  cons_option,
+  list_any,
+  IsStrictlyIncreasing,
+  length-map,
+  position-Some,
+  sum_by-cons,
+  All-nil,
+  All-cons,
+  All-head,
+  All-tail,
+  cases_eq,
+  cond_both,
+  nat_tests,
+  look_up,
+  changed_at,
+  without,
+  AllAbove,
+  KeysRise,
+  KeysDiffer,
+  placed,
+  by_key,
+}
 use Rattle.std.specs.List.{filter_map, All, AllPairs, insert, remove}
 use Rattle.std.proofs.lemmas.Bool.{eqb-true}
 use Rattle.std.proofs.lemmas.List.{get_or-map}
@@ -83,7 +143,8 @@ module _ {X : Type 0} (key : X → ℕ) where
   AllAbove-placed : (k : ℕ) (x : X) (xs : List X) → k < key x → AllAbove key k xs → AllAbove key k (placed key x xs)
   unfolding AllAbove placed
   AllAbove-placed k x [] lt all = (lt, tt)
-  AllAbove-placed k x (y ∷ ys) lt all = cond_both (ltb (key x) (key y)) (x ∷ y ∷ ys) (y ∷ placed key x ys) (AllAbove key k) (λ b. (lt, all)) (λ b. (all.0, AllAbove-placed k x ys lt all.1))
+  AllAbove-placed k x (y ∷ ys) lt all = cond_both (ltb (key x) (key y)) (x ∷ y ∷ ys) (y ∷ placed key x ys) (AllAbove key k) (λ b. (lt, all))
+      (λ b. (all.0, AllAbove-placed k x ys lt all.1))
 
   pub KeysRise-placed : (x : X) (xs : List X) → KeysRise key xs → look_up key (key x) xs ≡ None → KeysRise key (placed key x xs)
   unfolding KeysRise AllAbove look_up placed
@@ -111,7 +172,8 @@ module _ {X : Type 0} (key : X → ℕ) where
   length-by_key (x ∷ xs) = omega (arith, length-placed x (by_key key xs), length-by_key xs)
 
   -- one more at the end
-  pub look_up-push : (k : ℕ) (x : X) (xs : List X) → look_up key k (xs ++ x ∷ []) ≡ cond (is_some (look_up key k xs)) (look_up key k xs) (look_up key k (x ∷ []))
+  pub look_up-push : (k : ℕ) (x : X) (xs : List X) → look_up key k (xs ++ x ∷ []) ≡ cond (is_some (look_up key k xs)) (look_up key k xs)
+      (look_up key k (x ∷ []))
   unfolding look_up
   look_up-push k x [] = refl
   look_up-push k x (y ∷ ys) = grind (arith, nat_tests, look_up-push k x ys)
@@ -207,7 +269,8 @@ module _ {X : Type 0} (key : X → ℕ) where
   look_up-take (suc i) (x ∷ xs) d differ in' = search (rules, nat_tests, look_up-at, (look_up-take i xs d differ.1))
 
   -- where the first of the keys that is k stands, there stands the element of the key k
-  pub look_up-position : (k : ℕ) (t : ℕ → Bool) (tests : (j : ℕ) → t j ≡ eqb j k) (xs : List X) (i : ℕ) → KeysDiffer key xs → position t (map key xs) ≡ Some i → (i < length xs) × ((d : X) → look_up key k xs ≡ Some (get_or xs i d)) × ((d : X) → key (get_or xs i d) ≡ k)
+  pub look_up-position : (k : ℕ) (t : ℕ → Bool) (tests : (j : ℕ) → t j ≡ eqb j k) (xs : List X) (i : ℕ) → KeysDiffer key xs → position t (map key xs) ≡ Some i →
+      (i < length xs) × ((d : X) → look_up key k xs ≡ Some (get_or xs i d)) × ((d : X) → key (get_or xs i d) ≡ k)
   look_up-position k t tests xs i differ at =
       let within : i < length xs = omega (arith, length-map xs key, (position-Some t (map key xs) i 0 at).0) in
       let named : (d : X) → key (get_or xs i d) ≡ k =
@@ -222,7 +285,8 @@ module _ {X : Type 0} (key : X → ℕ) where
   changed_at-absent k f (x ∷ xs) none = grind (arith, nat_tests, changed_at-absent k f xs)
 
   -- a write at a place changes the element of that key
-  pub set-changed_at : (f : X → X) (k i : ℕ) (xs : List X) (d : X) → KeysDiffer key xs → i < length xs → key (get_or xs i d) ≡ k → set xs i (f (get_or xs i d)) ≡ changed_at key k f xs
+  pub set-changed_at : (f : X → X) (k i : ℕ) (xs : List X) (d : X) → KeysDiffer key xs → i < length xs → key (get_or xs i d) ≡ k →
+      set xs i (f (get_or xs i d)) ≡ changed_at key k f xs
   unfolding KeysDiffer changed_at
   set-changed_at f k i [] d differ in' e = absurd (omega arith)
   set-changed_at f k zero (x ∷ xs) d differ in' e = grind (arith, nat_tests, differ.0, changed_at-absent k f xs)
@@ -242,17 +306,20 @@ module _ {X : Type 0} (key : X → ℕ) where
   unfolding change
   change-keeps k f keeps x = grind (arith, nat_tests, keeps x)
 
-  pub look_up-changed_here : (k : ℕ) (f : X → X) (keeps : (x : X) → key (f x) ≡ key x) (xs : List X) → look_up key k (changed_at key k f xs) ≡ option_map f (look_up key k xs)
+  pub look_up-changed_here : (k : ℕ) (f : X → X) (keeps : (x : X) → key (f x) ≡ key x) (xs : List X) →
+      look_up key k (changed_at key k f xs) ≡ option_map f (look_up key k xs)
   unfolding look_up changed_at
   look_up-changed_here k f keeps [] = refl
   look_up-changed_here k f keeps (x ∷ xs) = grind (arith, nat_tests, keeps x, look_up-changed_here k f keeps xs)
 
-  pub look_up-changed_there : (k j : ℕ) (f : X → X) (keeps : (x : X) → key (f x) ≡ key x) (xs : List X) → (k ≡ j → ⊥) → look_up key j (changed_at key k f xs) ≡ look_up key j xs
+  pub look_up-changed_there : (k j : ℕ) (f : X → X) (keeps : (x : X) → key (f x) ≡ key x) (xs : List X) → (k ≡ j → ⊥) →
+      look_up key j (changed_at key k f xs) ≡ look_up key j xs
   unfolding look_up changed_at
   look_up-changed_there k j f keeps [] ne = refl
   look_up-changed_there k j f keeps (x ∷ xs) ne = grind (arith, nat_tests, keeps x, look_up-changed_there k j f keeps xs ne)
 
-  pub KeysDiffer-changed_at : (k : ℕ) (f : X → X) (keeps : (x : X) → key (f x) ≡ key x) (xs : List X) → KeysDiffer key xs → KeysDiffer key (changed_at key k f xs)
+  pub KeysDiffer-changed_at : (k : ℕ) (f : X → X) (keeps : (x : X) → key (f x) ≡ key x) (xs : List X) → KeysDiffer key xs →
+      KeysDiffer key (changed_at key k f xs)
   unfolding changed_at change
   KeysDiffer-changed_at k f keeps xs d = KeysDiffer-map (change k f) (change-keeps k f keeps) xs d
 
@@ -271,7 +338,15 @@ module _ {X : Type 0} (key : X → ℕ) where
   -- what holds of each element holds of the one that is found, and the other way round
   pub All-look_up : (P : X → Type 0) (k : ℕ) (xs : List X) (x : X) → All P xs → look_up key k xs ≡ Some x → P x
   All-look_up P k [] x all found = let none = look_up-nil k in absurd cc
-  All-look_up P k (y ∷ ys) x all found = grind (arith, nat_tests, (look_up-here k y ys), (All-head P y ys all), (All-tail P y ys all), (look_up-there k y ys), (All-look_up P k ys x))
+  All-look_up P k (y ∷ ys) x all found = grind (
+    arith,
+    nat_tests,
+    (look_up-here k y ys),
+    (All-head P y ys all),
+    (All-tail P y ys all),
+    (look_up-there k y ys),
+    (All-look_up P k ys x),
+  )
 
   pub All-from_look_up : (P : X → Type 0) (xs : List X) → KeysDiffer key xs → ((k : ℕ) (x : X) → look_up key k xs ≡ Some x → P x) → All P xs
   unfolding KeysDiffer
@@ -279,10 +354,22 @@ module _ {X : Type 0} (key : X → ℕ) where
   All-from_look_up P (x ∷ xs) d each =
       All-cons P x xs (each (key x) x (look_up-here (key x) x xs refl)) (All-from_look_up P xs d.1 (λ k y found. each k y (look_up-later k x xs y d.0 found)))
 
-  pub All-changed_at : (P : X → Type 0) (k : ℕ) (f : X → X) (xs : List X) → KeysDiffer key xs → All P xs → ((x : X) → look_up key k xs ≡ Some x → P x → P (f x)) → All P (changed_at key k f xs)
+  pub All-changed_at : (P : X → Type 0) (k : ℕ) (f : X → X) (xs : List X) → KeysDiffer key xs → All P xs →
+      ((x : X) → look_up key k xs ≡ Some x → P x → P (f x)) → All P (changed_at key k f xs)
   unfolding changed_at KeysDiffer
   All-changed_at P k f [] d all each = All-nil P
-  All-changed_at P k f (x ∷ xs) d all each = grind (arith, nat_tests, (All-head P x xs all), (All-cons P), cond_both, (look_up-here k x xs), eqb-true, (All-tail P x xs all), (look_up-later k x xs), (All-changed_at P k f xs))
+  All-changed_at P k f (x ∷ xs) d all each = grind (
+    arith,
+    nat_tests,
+    (All-head P x xs all),
+    (All-cons P),
+    cond_both,
+    (look_up-here k x xs),
+    eqb-true,
+    (All-tail P x xs all),
+    (look_up-later k x xs),
+    (All-changed_at P k f xs),
+  )
 
   -- keys as numbers
   pub look_up-keys : (k : ℕ) (xs : List X) → look_up (λ n. n) k (map key xs) ≡ option_map key (look_up key k xs)
@@ -369,8 +456,11 @@ module _ {X : Type 0} (key : X → ℕ) where
   unfolding KeysRise
   rise_from_increasing [] up = tt
   rise_from_increasing (x ∷ xs) up =
-      let far = AllPairs-from_increasing (map key (x ∷ xs)) up in
-      (AllAbove-from (key x) xs (λ j in'. far 0 (suc j) 0 (omega arith) (omega (arith, length-map xs key))), rise_from_increasing xs (λ k in'. far (suc k) (suc (k + 1)) 0 (omega arith) (omega arith)))
+      let far = AllPairs-from_increasing (map key (x ∷ xs)) up in (
+        AllAbove-from (key x) xs (λ j in'. far 0 (suc j) 0 (omega arith) (omega (arith, length-map xs key))),
+        rise_from_increasing xs
+            (λ k in'. far (suc k) (suc (k + 1)) 0 (omega arith) (omega arith)),
+      )
 
   -- a key that stands at no place isn't found
   pub look_up-nowhere : (k : ℕ) (xs : List X) → ((j : ℕ) (d : X) → j < length xs → key (get_or xs j d) ≡ k → ⊥) → look_up key k xs ≡ None
@@ -379,7 +469,8 @@ module _ {X : Type 0} (key : X → ℕ) where
       look_up-there key k x xs (none 0 x (omega arith)) ∙ look_up-nowhere k xs (λ j d in' e. none (suc j) d (omega arith) e)
 
 -- a number put in where the smaller ones end stands by rising number
-pub insert-placed : (xs : List ℕ) (i x : ℕ) → i ≤ length xs → ((k : ℕ) → k < i → get_or xs k 0 < x) → ((k : ℕ) → i ≤ k → k < length xs → x < get_or xs k 0) → insert xs i x ≡ placed (λ n. n) x xs
+pub insert-placed : (xs : List ℕ) (i x : ℕ) → i ≤ length xs → ((k : ℕ) → k < i → get_or xs k 0 < x) → ((k : ℕ) → i ≤ k → k < length xs → x < get_or xs k 0) →
+    insert xs i x ≡ placed (λ n. n) x xs
 unfolding placed
 insert-placed [] zero x le low high = refl
 insert-placed [] (suc i) x le low high = absurd (omega arith)

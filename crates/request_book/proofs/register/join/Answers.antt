@@ -19,5 +19,6 @@ returns-clause-items c =
           let none = c.requires.new in
           absurd cc
       | in-Err w ↦
-          items ∙ ap (λ i. insert xs i x) w.place-is ∙ insert_sought xs x c.requires.rise w.in-Err.place (subst (Answer (Err w.in-Err.place)) c.deref.ensures.value w.in-Err.ensures.position)
+          items ∙ ap (λ i. insert xs i x) w.place-is ∙ insert_sought xs x c.requires.rise w.in-Err.place
+          (subst (Answer (Err w.in-Err.place)) c.deref.ensures.value w.in-Err.ensures.position)
     ]

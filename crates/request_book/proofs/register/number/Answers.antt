@@ -10,4 +10,5 @@ if_ok (Err e) P done h = absurd (false≢true done)
 
 pub returns-clause-names : goal.returns-clause-names
 returns-clause-names c =
-    if_ok c.number.result _ (c.number.ensures.sure c.requires.room) (rw c.get.ensures.value at c.number.ensures.names) ∙ inserted c.args.ids.now.names c.args.rider c.requires.new
+    if_ok c.number.result _ (c.number.ensures.sure c.requires.room) (rw c.get.ensures.value at c.number.ensures.names) ∙
+    inserted c.args.ids.now.names c.args.rider c.requires.new

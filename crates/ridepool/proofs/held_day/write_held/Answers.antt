@@ -21,8 +21,10 @@ loop-round-preserved g c = record {
       let before = c.loop-round.invariant.put settings roads told made holds none in
       let fewer = c.loop-round.invariant.fewer in
       let puts = c.in_ok-put_held.ensures.round settings roads told at.0 at.3 (λ nobody. let zero = none nobody in omega (arith, fewer, zero)) in
-      let next : c.saturating_add-position.result ≡ next_position c.loop-round.position at.0.journal.entries = c.saturating_add-position.ensures ∙ ap (λ (n : ℕ). min (c.loop-round.position + n) (2 ^ 64 - 1)) at.3.entries in (
-        put_next settings roads made i at.0 (g.K.Sink.written c.args.out.now) (g.K.Sink.written c.loop-round.out) (g.K.Sink.written c.put_held.new.out) _ _ _ at.1 at.2 before.0 puts,
+      let next : c.saturating_add-position.result ≡ next_position c.loop-round.position at.0.journal.entries = c.saturating_add-position.ensures ∙
+      ap (λ (n : ℕ). min (c.loop-round.position + n) (2 ^ 64 - 1)) at.3.entries in (
+        put_next settings roads made i at.0 (g.K.Sink.written c.args.out.now) (g.K.Sink.written c.loop-round.out) (g.K.Sink.written c.put_held.new.out) _ _ _
+            at.1 at.2 before.0 puts,
         position_next settings roads made i at.0 c.loop-round.position c.saturating_add-position.result at.1 at.2 before.1 next,
       );
   fewer = omega (arith, c.loop-round.invariant.fewer, c.put_held.ensures.fewer);
@@ -41,7 +43,8 @@ returns-in_err-put_held-clause-rounds g c = λ settings roads told made holds no
     (stops_next settings roads made i at.0
     (g.K.Sink.written c.args.out.now) (g.K.Sink.written c.loop-round.out) (g.K.Sink.written c.put_held.new.out) _ _ _
     (g.K.Sink.faults c.args.out.now) (g.K.Sink.faults c.loop-round.out) (g.K.Sink.faults c.put_held.new.out)
-    c.in_err-put_held.field-0.0 at.1 at.2 c.loop-round.invariant.up before.0 (c.in_err-put_held.ensures.round settings roads told at.0 at.3 (λ nobody. let zero = none nobody in omega (arith, fewer, zero))))
+    c.in_err-put_held.field-0.0 at.1 at.2 c.loop-round.invariant.up before.0 (c.in_err-put_held.ensures.round settings roads told at.0 at.3
+    (λ nobody. let zero = none nobody in omega (arith, fewer, zero))))
 
 pub returns-clause-rounds : goal.returns-clause-rounds
 returns-clause-rounds g c = λ settings roads told made holds none.

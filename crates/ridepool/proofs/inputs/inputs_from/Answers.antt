@@ -4,7 +4,8 @@ use Rattle.ridepool.proofs.inputs.inputs_from.Goals as goal
 
 pub returns-in-Load-clause-got : goal.returns-in-Load-clause-got
 returns-in-Load-clause-got g c report untouched =
-    got_made c.args.settings.now _ c.in-Load.shape c.made_inputs.result c.in-Load.is (record { network = refl; fleet = refl; script = refl; report = untouched })
+    got_made c.args.settings.now _ c.in-Load.shape c.made_inputs.result c.in-Load.is (record
+    { network = refl; fleet = refl; script = refl; report = untouched })
     c.made_inputs.ensures.read c.made_inputs.ensures.memory
 
 pub returns-in-Run-clause-got : goal.returns-in-Run-clause-got
@@ -16,7 +17,8 @@ returns-in-Audit-clause-got g c report untouched =
     got_audit c.args.settings.now _ c.read_inputs-in-Audit.result c.in-Audit.is (c.read_inputs-in-Audit.ensures.read report untouched)
 
 pub returns-in-Ok-is_day-clause-got : goal.returns-in-Ok-is_day-clause-got
-returns-in-Ok-is_day-clause-got g c report untouched = got_day c.args.settings.now _ c.in-Ok.inputs c.in-Drive.is (c.in-Ok.ensures.read report untouched) c.in-Ok-is_day.ensures
+returns-in-Ok-is_day-clause-got g c report untouched = got_day c.args.settings.now _ c.in-Ok.inputs c.in-Drive.is (c.in-Ok.ensures.read report untouched)
+    c.in-Ok-is_day.ensures
 
 pub returns-in-Err-is_day-clause-got : goal.returns-in-Err-is_day-clause-got
 returns-in-Err-is_day-clause-got g c report untouched =

@@ -36,8 +36,11 @@ pub returns-in-Err-clause-no_memory : goal.returns-in-Err-clause-no_memory
 returns-in-Err-clause-no_memory g c = words-hide (words_of_run (map string_bytes c.args.words.now)) c.in-Err.status c.in-Err.ensures
 
 pub returns-in-Err-network_from-clause-limited : goal.returns-in-Err-network_from-clause-limited
-returns-in-Err-network_from-clause-limited g c =
-    (stop-limited _ file.Network _ _ c.in-Err-network_from.status c.in-Err-network_from.ensures, inl (untouched_within file.Fleet (source_seen g.F.Source.left g.F.Source.taken g.F.Source.faults c.args.fleet.now c.args.fleet.now) refl))
+returns-in-Err-network_from-clause-limited g c = (
+  stop-limited _ file.Network _ _ c.in-Err-network_from.status c.in-Err-network_from.ensures,
+  inl
+      (untouched_within file.Fleet (source_seen g.F.Source.left g.F.Source.taken g.F.Source.faults c.args.fleet.now c.args.fleet.now) refl),
+)
 
 pub returns-in-Err-network_from-clause-no_memory : goal.returns-in-Err-network_from-clause-no_memory
 returns-in-Err-network_from-clause-no_memory g c = stop_hides _ file.Network _ _ c.in-Err-network_from.status c.in-Err-network_from.ensures

@@ -20,4 +20,5 @@ returns-in-Ok-write_head-clause-started g c =
 
 pub returns-in-Err-write_head-clause-stopped : goal.returns-in-Err-write_head-clause-stopped
 returns-in-Err-write_head-clause-stopped g c told =
-    head-stops _ _ c.in-Ok.version c.read_start.new.lines.to_come c.in-Err-write_head.fault c.status_of.result c.status_of.ensures c.in-Ok.ensures.started refl c.in-Err-write_head.ensures
+    head-stops _ _ c.in-Ok.version c.read_start.new.lines.to_come c.in-Err-write_head.fault c.status_of.result c.status_of.ensures c.in-Ok.ensures.started refl
+    c.in-Err-write_head.ensures

@@ -5,7 +5,8 @@ use Rattle.ridepool.proofs.run.ridepool.Goals as goal
 
 pub returns-in-Err : goal.returns-in-Err
 returns-in-Err g c =
-    words_answer _ c.in-Err.fault c.in-Err.ensures.refused (record { network = refl; fleet = refl; script = refl; report = refl }) (record { out = refl; notifiers = refl })
+    words_answer _ c.in-Err.fault c.in-Err.ensures.refused (record { network = refl; fleet = refl; script = refl; report = refl })
+    (record { out = refl; notifiers = refl })
 
 pub returns-in-Err-inputs_from : goal.returns-in-Err-inputs_from
 returns-in-Err-inputs_from g c =
@@ -14,12 +15,14 @@ returns-in-Err-inputs_from g c =
 
 pub returns-in-Ok-audited : goal.returns-in-Ok-audited
 returns-in-Ok-audited g c =
-    yes_answer _ c.in-Ok.settings c.in-Ok-inputs_from.inputs (record { faultless = c.in-Ok.ensures.accepted.0; given = c.in-Ok.ensures.accepted.1 }) c.in-Audit.is
+    yes_answer _ c.in-Ok.settings c.in-Ok-inputs_from.inputs (record { faultless = c.in-Ok.ensures.accepted.0; given = c.in-Ok.ensures.accepted.1 })
+    c.in-Audit.is
     (c.in-Ok-inputs_from.ensures.got _ refl) refl c.in-Ok-audited.ensures.audited
 
 pub returns-in-Err-audited : goal.returns-in-Err-audited
 returns-in-Err-audited g c =
-    no_answer _ c.in-Ok.settings c.in-Ok-inputs_from.inputs (record { faultless = c.in-Ok.ensures.accepted.0; given = c.in-Ok.ensures.accepted.1 }) c.in-Audit.is
+    no_answer _ c.in-Ok.settings c.in-Ok-inputs_from.inputs (record { faultless = c.in-Ok.ensures.accepted.0; given = c.in-Ok.ensures.accepted.1 })
+    c.in-Audit.is
     (c.in-Ok-inputs_from.ensures.got _ refl) refl c.in-Err-audited.status c.in-Err-audited.ensures.audited
 
 pub returns-in-Ok-written : goal.returns-in-Ok-written

@@ -12,6 +12,7 @@ returns-in-Err-tell_journal-clause-round g c = IsUnput.untold c.in-Ok.ensures.by
 pub returns-in-Err-clause-round : goal.returns-in-Err-clause-round
 returns-in-Err-clause-round g c =
     IsUnput.unwritten _
-    (text_unwritten _ (g.K.Sink.written c.args.out.now) (g.K.Sink.written c.write_added.new.out) (g.K.Sink.faults c.args.out.now) (g.K.Sink.faults c.write_added.new.out)
+    (text_unwritten _ (g.K.Sink.written c.args.out.now) (g.K.Sink.written c.write_added.new.out) (g.K.Sink.faults c.args.out.now)
+    (g.K.Sink.faults c.write_added.new.out)
     c.in-Err.fault c.status_of.result c.status_of.ensures c.in-Err.ensures.bytes (λ is. c.in-Err.ensures.fault (ap Err is)))
     refl

@@ -35,4 +35,5 @@ returns-in-Err-clause-round g c =
     let journal = c.in-Ok-take_round.journal in
     IsRoundFault.unput journal c.in-Err.status
     (next_journal s roads c.args.book c.in-Ok.book c.args.round.now journal c.in-Ok.ensures.run c.in-Ok.ensures.same c.in-Ok-take_round.ensures.journal)
-    (numbered (λ r n m. IsUnput s roads r before after n m (g.K.Sink.faults c.args.out.now) (g.K.Sink.faults c.put_round-put.new.out) c.in-Err.status) journal _ _ _ _ c.number.ensures.value c.in-Err.ensures.round)
+    (numbered (λ r n m. IsUnput s roads r before after n m (g.K.Sink.faults c.args.out.now) (g.K.Sink.faults c.put_round-put.new.out) c.in-Err.status) journal _
+    _ _ _ c.number.ensures.value c.in-Err.ensures.round)

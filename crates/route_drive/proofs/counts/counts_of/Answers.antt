@@ -18,5 +18,6 @@ returns-in-Ok c = λ entries are.
     let few : c.len.result < 2 ^ 64 = (let is = c.len.ensures in let small = picked.small in omega (arith, is, small)) in
     let less : c.len-in-Ok.result < 2 ^ 64 = (let is = c.len-in-Ok.ensures in let small = dropped.small in omega (arith, is, small)) in
     let delays = rw (c.deref.ensures.value, c.in_ok-arcs.ensures) at c.in-Ok.ensures in
-    counts_are c.args.network.now c.args.book.now.state.riders c.args.served.now entries c.len.result c.len-in-Ok.result c.worst_wait.result c.in-Ok.delay delays.0
+    counts_are c.args.network.now c.args.book.now.state.riders c.args.served.now entries c.len.result c.len-in-Ok.result c.worst_wait.result c.in-Ok.delay
+    delays.0
     picks few drops less (rw c.deref-in-Ok.ensures.value at c.worst_wait.ensures) delays.1 delays.2 are

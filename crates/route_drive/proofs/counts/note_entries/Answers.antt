@@ -15,4 +15,5 @@ loop-entry-preserved c =
 pub returns : goal.returns
 returns c =
     let all : length c.args.entries.now ≤ c.loop-entry.entry-index = omega arith in
-    subst (λ (es : List Entry). AddsServed es c.args.served.now c.loop-entry.served) (take_all c.loop-entry.entry-index c.args.entries.now all) c.loop-entry.invariant
+    subst (λ (es : List Entry). AddsServed es c.args.served.now c.loop-entry.served) (take_all c.loop-entry.entry-index c.args.entries.now all)
+    c.loop-entry.invariant

@@ -20,4 +20,5 @@ returns-in-Err c =
     let i = c.loop-round.round-index in
     let within : c.loop-round.round-index < length c.rounds-round-items.result.now = omega arith in
     let here = fault_here rounds i c.loop-round.latest c.round-item.result within c.round-item.is c.loop-round.invariant.latest in
-    rw (← c.rounds-round-items.ensures.rounds) (first_fault-some (fault_at rounds) (length rounds) i c.in-Err.fault within c.loop-round.invariant.none (here ∙ c.in-Err.ensures))
+    rw (← c.rounds-round-items.ensures.rounds) (first_fault-some (fault_at rounds) (length rounds) i c.in-Err.fault within c.loop-round.invariant.none
+    (here ∙ c.in-Err.ensures))

@@ -15,7 +15,8 @@ loop-k-preserved c =
     let courses = c.args.courses.now in
     let places = c.args.places.now in
     let within : c.loop-k.k < length c.args.vehicles.now = omega arith in
-    let more = told-more c.args.now vehicles courses places c.loop-k.k c.index-vehicles-k.result c.index-courses-k.result c.index-places-k.result c.requires.same c.requires.each within
+    let more = told-more c.args.now vehicles courses places c.loop-k.k c.index-vehicles-k.result c.index-courses-k.result c.index-places-k.result
+    c.requires.same c.requires.each within
     c.index-vehicles-k.is c.index-courses-k.is c.index-places-k.is in
     let before = told_by c.args.now (take c.loop-k.k vehicles) (take c.loop-k.k courses) (take c.loop-k.k places) in
     let own = told_of c.args.now c.index-vehicles-k.result.id c.index-courses-k.result c.index-places-k.result in

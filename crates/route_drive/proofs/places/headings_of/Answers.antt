@@ -10,8 +10,10 @@ loop-k-preserved c =
     let courses = c.args.courses.now in
     let before = headings_of c.args.dwell c.args.now (take c.loop-k.k vehicles) (take c.loop-k.k courses) in
     let within : c.loop-k.k < length c.args.vehicles.now = omega arith in
-    c.in_ok-push.ensures.items ∙ ap (λ (l : List Heading). l ++ c.heading_of.result ∷ []) c.loop-k.invariant ∙ ap (λ (h : Heading). before ++ h ∷ []) c.heading_of.ensures
-    ∙ sym (headings-more c.args.dwell c.args.now vehicles courses c.loop-k.k c.index-vehicles-k.result c.index-courses-k.result c.requires.same within c.index-vehicles-k.is c.index-courses-k.is)
+    c.in_ok-push.ensures.items ∙ ap (λ (l : List Heading). l ++ c.heading_of.result ∷ []) c.loop-k.invariant ∙
+    ap (λ (h : Heading). before ++ h ∷ []) c.heading_of.ensures
+    ∙ sym (headings-more c.args.dwell c.args.now vehicles courses c.loop-k.k c.index-vehicles-k.result c.index-courses-k.result c.requires.same within
+    c.index-vehicles-k.is c.index-courses-k.is)
 
 pub returns : goal.returns
 returns c =

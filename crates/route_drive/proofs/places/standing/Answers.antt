@@ -15,15 +15,18 @@ loop-stop-preserved c =
     let p = λ (s : PlannedStop). leb s.second c.get-now.result in
     elim c.if-stop-now.branch [
       | then-stop-now w ↦
-          let kept : leb (get_or c.args.stops.now c.loop-stop.stop-index c.stop-item.result).second c.get-now.result ≡ true = rw same (le-leb stop.second now w.if-stop-now.true) in
+          let kept : leb (get_or c.args.stops.now c.loop-stop.stop-index c.stop-item.result).second c.get-now.result ≡ true =
+          rw same (le-leb stop.second now w.if-stop-now.true) in
           let more : due c.get-now.result (take (i + 1) stops) ≡ _ = filter_takes p stops i stop within kept in
           record {
-            after = rw w.at-is (sym (ap (standing_after c.args.dwell (reported_place c.args.vehicle.now)) more ∙ standing-push c.args.dwell (reported_place c.args.vehicle.now) (due now (take i stops)) (get_or stops i stop)
+            after = rw w.at-is (sym (ap (standing_after c.args.dwell (reported_place c.args.vehicle.now)) more ∙
+                standing-push c.args.dwell (reported_place c.args.vehicle.now) (due now (take i stops)) (get_or stops i stop)
                 ∙ ap (λ (s : PlannedStop). let at : Stay = record { node = s.node; second = s.second; free = s.second + c.args.dwell } in at) same));
             short = rw w.at-is (omega (arith, c.get-now.ensures.within, c.get-now.ensures.value, w.if-stop-now.true));
           }
       | else-stop-now w ↦
-          let left : leb (get_or c.args.stops.now c.loop-stop.stop-index c.stop-item.result).second c.get-now.result ≡ false = rw same (lt-leb stop.second now w.if-stop-now.false) in
+          let left : leb (get_or c.args.stops.now c.loop-stop.stop-index c.stop-item.result).second c.get-now.result ≡ false =
+          rw same (lt-leb stop.second now w.if-stop-now.false) in
           let none : due c.get-now.result (take (i + 1) stops) ≡ _ = filter_skips p stops i stop within left in
           record {
             after = rw w.at-is (c.loop-stop.invariant.after ∙ sym (ap (standing_after c.args.dwell (reported_place c.args.vehicle.now)) none));

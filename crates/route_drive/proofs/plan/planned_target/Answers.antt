@@ -14,4 +14,5 @@ returns-then-eq c =
     let there : p (get_or items i line) ≡ true = subst (λ (m : MoveLine). (m.vehicle == c.args.vehicle) ≡ true) c.line-item.is hit in
     let found : find p items ≡ Some line = c.loop-line.invariant ∙ find_hit p items i line within there ∙ ap (λ (m : MoveLine). Some m) (sym c.line-item.is) in
     let planned : find p c.args.planned.now.moves ≡ Some line = subst (λ (ms : List MoveLine). find p ms ≡ Some line) c.as_slice-line-items.ensures found in
-    c.origin_of.ensures ∙ sym (ap (option_and_then (λ (m : MoveLine). option_map (λ (r : BookRider). r.origin) (find (λ (r : BookRider). r.id == m.rider) c.args.riders.now))) planned)
+    c.origin_of.ensures ∙ sym (ap (option_and_then (λ (m : MoveLine). option_map (λ (r : BookRider). r.origin)
+    (find (λ (r : BookRider). r.id == m.rider) c.args.riders.now))) planned)

@@ -10,7 +10,8 @@ returns-in_default-clause-late c = λ _.
       | inl h ↦ h
       | inr le ↦ absurd (false≢true (c.in_default.ensures.valid.1 le))
     ] in
-    any_mapped (λ (c : Command). longest < second_of c) (stop_command c.args.vehicle) c.args.stops.now c.loop-stop.stop-index c.stop-item.result within c.stop-item.is (late_stop c.args.vehicle c.stop-item.result late)
+    any_mapped (λ (c : Command). longest < second_of c) (stop_command c.args.vehicle) c.args.stops.now c.loop-stop.stop-index c.stop-item.result within
+    c.stop-item.is (late_stop c.args.vehicle c.stop-item.result late)
 
 pub loop-stop-preserved : goal.loop-stop-preserved
 loop-stop-preserved c =
@@ -22,6 +23,8 @@ loop-stop-preserved c =
     let within : c.loop-stop.stop-index < length c.args.stops.now = omega arith in
     let more : map command (take (i + 1) stops) ≡ before ++ own ∷ [] = rw (map_more command stops i c.stop-item.result within, ← c.stop-item.is) refl in
     record {
-      entered = rw more (Adds-trans 0 c.args.round.now c.loop-stop.round c.put.new.round before (own ∷ []) c.loop-stop.invariant.entered (rw c.command_of.ensures.value at c.in-Ok.ensures));
-      in_time = rw more (All-push IsInTime before own c.loop-stop.invariant.in_time (stop_in_time c.args.vehicle c.stop-item.result (c.in-Some.ensures.valid.0 refl)));
+      entered = rw more (Adds-trans 0 c.args.round.now c.loop-stop.round c.put.new.round before (own ∷ []) c.loop-stop.invariant.entered
+          (rw c.command_of.ensures.value at c.in-Ok.ensures));
+      in_time = rw more (All-push IsInTime before own c.loop-stop.invariant.in_time (stop_in_time c.args.vehicle c.stop-item.result
+          (c.in-Some.ensures.valid.0 refl)));
     }

@@ -9,7 +9,8 @@ loop-at-preserved c =
     let at = c.loop-at.at in
     let tree = c.requires.tree in
     let inside : c.loop-at.at < length c.args.tree.now.found.items = c.loop-at.invariant.within in
-    let read : c.index-in-loop-at.result.now ≡ found_at c.args.tree.now.found.items c.loop-at.at = get_or_read found at c.index-in-loop-at.result.now inside c.index-in-loop-at.ensures no_found in
+    let read : c.index-in-loop-at.result.now ≡ found_at c.args.tree.now.found.items c.loop-at.at =
+    get_or_read found at c.index-in-loop-at.result.now inside c.index-in-loop-at.ensures no_found in
     let earlier : (found_at c.args.tree.now.found.items c.loop-at.at).by < c.loop-at.at = tree.earlier at (omega arith) inside in
     let by : (found_at c.args.tree.now.found.items c.loop-at.at).by < length c.args.tree.now.found.items = omega arith in
     let read_by : c.index-in-loop-at-2.result.now ≡ found_at c.args.tree.now.found.items (found_at c.args.tree.now.found.items c.loop-at.at).by =

@@ -23,5 +23,6 @@ loop-lane-preserved g c =
       room = search rules;
       each = subst (λ items. (k : ℕ) (d : _) → k < c.loop-lane.lane + 1 → get_or items k d ≡ new_pass c.args.queue.now.shared.table_id start k) (sym p.items)
           (pushed_each _ _ _ (new_pass c.args.queue.now.shared.table_id start) (omega (arith, i.len, c.loop-lane.passes.ok.0)) i.each
-          (pass_value-at c.split_seat-seat.result start _ [] 0 (given_is _ _ start _ c.args.lanes i.view c.loop-lane-test.true s.4) ∙ ap (λ t. new_pass t start c.loop-lane.lane) (s.3 ∙ i.own)));
+          (pass_value-at c.split_seat-seat.result start _ [] 0 (given_is _ _ start _ c.args.lanes i.view c.loop-lane-test.true s.4) ∙
+          ap (λ t. new_pass t start c.loop-lane.lane) (s.3 ∙ i.own)));
     }

@@ -37,12 +37,16 @@ loop-worker-preserved g c =
       own = j.0 ∙ i.own;
       parts = omega (arith, h.1.part, e.cases, i.parts, ap (λ m. m.0.parts) j.2);
       empty_handed = ap (λ m. m.1) j.2 ∙ i.empty_handed;
-      matches = λ on. let was : c.loop-worker.all.ended ≡ true = search rules in let ends : c.in-Some-pop.worker.ended ≡ true = search rules in let ended = h.1.ended ends in Matches-joined pieces _ _ _ _ _ _ ended.0 (ap (λ m. m.0.numbers) j.2) items (i.matches was) ended.1 ended.2;
+      matches = λ on. let was : c.loop-worker.all.ended ≡ true = search rules in let ends : c.in-Some-pop.worker.ended ≡ true = search rules in let ended =
+          h.1.ended ends in Matches-joined pieces _ _ _ _ _ _ ended.0 (ap (λ m. m.0.numbers) j.2) items (i.matches was) ended.1 ended.2;
       worked = h.0;
       right = λ job all.
           let r = i.right job all in
-          let p = All-pop (λ w. AreDoneRight pieces (g.J.Job.right job) w.done.items) _ _ (Some _) e.items r.1 in
-          (subst (AreDoneRight pieces (g.J.Job.right job)) (sym items) (All-append (λ (d : Done _). (d.piece < pieces) × g.J.Job.right job d.piece d.out) _ _ r.0 p.1), p.0);
+          let p = All-pop (λ w. AreDoneRight pieces (g.J.Job.right job) w.done.items) _ _ (Some _) e.items r.1 in (
+            subst (AreDoneRight pieces (g.J.Job.right job)) (sym items) (All-append (λ (d : Done _). (d.piece < pieces) × g.J.Job.right job d.piece d.out) _ _
+                r.0 p.1),
+            p.0,
+          );
     }
 
 pub returns-clause-right : goal.returns-clause-right

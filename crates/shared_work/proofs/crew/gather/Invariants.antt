@@ -10,7 +10,8 @@ invariant-loop-worker g l = record {
   matches : l.all.ended ≡ true → Matches l.claims.shared.key.pieces l.all.hand.me.0.numbers l.all.done.items;
   worked : All (HasWorked l.claims.shared.table_id l.claims.shared.key.pieces) l.crew.items;
   right : (job : g.row.J.Denot) → All (λ w. AreDoneRight l.claims.shared.key.pieces (g.J.Job.right job) w.done.items) l.fn.crew.items
-      → AreDoneRight l.claims.shared.key.pieces (g.J.Job.right job) l.all.done.items × All (λ w. AreDoneRight l.claims.shared.key.pieces (g.J.Job.right job) w.done.items) l.crew.items;
+      → AreDoneRight l.claims.shared.key.pieces (g.J.Job.right job) l.all.done.items × All (λ w. AreDoneRight l.claims.shared.key.pieces (g.J.Job.right job)
+      w.done.items) l.crew.items;
 }
 
 abbrev pub decreases-loop-worker : goal.decreases-loop-worker

@@ -1,12 +1,37 @@
 use Rattle.std.proofs.lemmas.Bool.Decides.{nat_tests}
 use Rattle.std.proofs.Common.{◌≡◌, ℕ, zero, suc, ◌+◌, ◌*◌, ◌<◌, ◌≤◌, List, ◌∷◌, length, take, slice_index, refl, sym, subst, arith, rules, [], ap}
-use Rattle.stop_orders.proofs.Common.{AllByRecursion, never, longest, Task, Stop, IsKnown, place_of, Reaches, delay_from, seconds_from, IsTask, IsOrderOf, Serves, visit_at, visits_of, ReachesAll, order_delay, seconds_of, first_position, position_after, CanVisitFrom, ServesAt, lateness}
+use Rattle.stop_orders.proofs.Common.{
+  AllByRecursion,
+  never,
+  longest,
+  Task,
+  Stop,
+  IsKnown,
+  place_of,
+  Reaches,
+  delay_from,
+  seconds_from,
+  IsTask,
+  IsOrderOf,
+  Serves,
+  visit_at,
+  visits_of,
+  ReachesAll,
+  order_delay,
+  seconds_of,
+  first_position,
+  position_after,
+  CanVisitFrom,
+  ServesAt,
+  lateness,
+}
 use Rattle.stop_orders.specs.declared.search.position.Position.{Position}
 use Rattle.stop_orders.proofs.lemmas.task.DoneLemmas.{length-IsOrder}
 
 -- an order of a valid task has at most 22 stops
 pub order_short : (points : ℕ) (task : Task) (stops : List Stop) → IsTask points task → IsOrderOf task stops → length stops ≤ 22
-order_short points task stops valid order = grind (arith, nat_tests, (length-IsOrder (length task.riders.items) (length task.aboard.items) stops valid.rider_count order))
+order_short points task stops valid order =
+    grind (arith, nat_tests, (length-IsOrder (length task.riders.items) (length task.aboard.items) stops valid.rider_count order))
 
 -- all stops serve exactly where the rest serves from here
 pub record ServingScan (points : ℕ) (tau : ℕ → ℕ → ℕ) (task : Task) (stops rest : List Stop) (p : Position) : Type 0 where
@@ -32,11 +57,13 @@ module _ (points : ℕ) (tau : ℕ → ℕ → ℕ) (task : Task) (stops : List 
         from = λ s. record { order = order; in_time = s };
       })
 
-  pub serving_next : (s : Stop) (rest : List Stop) (p q : Position) → ServingScan points tau task stops (s ∷ rest) p → CanVisitFrom tau p (visit_at task s) → q ≡ position_after tau task.dwell p (visit_at task s)
+  pub serving_next : (s : Stop) (rest : List Stop) (p q : Position) → ServingScan points tau task stops (s ∷ rest) p → CanVisitFrom tau p (visit_at task s) →
+      q ≡ position_after tau task.dwell p (visit_at task s)
       → ServingScan points tau task stops rest q
   serving_next s rest p q scan can e = search rules
 
-  pub serving_stuck : (s : Stop) (rest : List Stop) (p : Position) → ServingScan points tau task stops (s ∷ rest) p → (CanVisitFrom tau p (visit_at task s) → ⊥) → Serves tau task stops → ⊥
+  pub serving_stuck : (s : Stop) (rest : List Stop) (p : Position) → ServingScan points tau task stops (s ∷ rest) p →
+      (CanVisitFrom tau p (visit_at task s) → ⊥) → Serves tau task stops → ⊥
   serving_stuck s rest p scan never serves = let way = scan.to serves in never (way.0, way.1, way.2)
 
   pub serving_last : (rest : List Stop) (p : Position) → rest ≡ [] → ServingScan points tau task stops rest p → Serves tau task stops
@@ -66,15 +93,20 @@ module _ (points : ℕ) (tau : ℕ → ℕ → ℕ) (task : Task) (stops : List 
         sum = omega arith;
       }
 
-  pub delay_next : (s : Stop) (rest : List Stop) (place free delay to second late : ℕ) → DelayScan points tau task stops (s ∷ rest) place free delay → to ≡ place_of (visit_at task s) → to < points
-      → tau place to < never → second ≡ free + tau place to → second ≤ free + longest → late ≡ lateness (visit_at task s) second → late ≤ second → DelayScan points tau task stops rest to (second + task.dwell) (delay + late)
+  pub delay_next : (s : Stop) (rest : List Stop) (place free delay to second late : ℕ) → DelayScan points tau task stops (s ∷ rest) place free delay →
+      to ≡ place_of (visit_at task s) → to < points
+      → tau place to < never → second ≡ free + tau place to → second ≤ free + longest → late ≡ lateness (visit_at task s) second → late ≤ second →
+      DelayScan points tau task stops rest to (second + task.dwell) (delay + late)
   delay_next s rest place free delay to second late scan e inside reach is short at most = search rules
 
-  pub delay_stuck : (s : Stop) (rest : List Stop) (place free delay to : ℕ) → DelayScan points tau task stops (s ∷ rest) place free delay → to ≡ place_of (visit_at task s) → tau place to ≡ never → ReachesAll tau task stops → ⊥
+  pub delay_stuck : (s : Stop) (rest : List Stop) (place free delay to : ℕ) → DelayScan points tau task stops (s ∷ rest) place free delay →
+      to ≡ place_of (visit_at task s) → tau place to ≡ never → ReachesAll tau task stops → ⊥
   delay_stuck s rest place free delay to scan e none all = omega (arith, ap (λ n. tau place n) e, none, (scan.to all).0)
 
-  pub delay_last : (rest : List Stop) (place free delay : ℕ) → rest ≡ [] → DelayScan points tau task stops rest place free delay → ReachesAll tau task stops × (delay ≡ order_delay tau task stops)
-  delay_last rest place free delay e scan = let end = subst (λ r. DelayScan points tau task stops r place free delay) e scan in (end.from tt, omega (arith, end.sum))
+  pub delay_last : (rest : List Stop) (place free delay : ℕ) → rest ≡ [] → DelayScan points tau task stops rest place free delay →
+      ReachesAll tau task stops × (delay ≡ order_delay tau task stops)
+  delay_last rest place free delay e scan = let end = subst (λ r. DelayScan points tau task stops r place free delay) e
+      scan in (end.from tt, omega (arith, end.sum))
 
 -- of the stops from here on, the one at j is the one at k of all
 pub record SecondScan (points : ℕ) (tau : ℕ → ℕ → ℕ) (task : Task) (stops rest : List Stop) (k j place free : ℕ) : Type 0 where

@@ -25,6 +25,7 @@ soon_over points tau t p f q g reach h = search rules
 
 module _ (tau : ℕ → ℕ → ℕ) (dwell : ℕ) where
   -- who is as soon, with as much room, serves what the other serves, with no more delay
-  pub ServesFrom-soon : (vs : List Visit) (p f r q g s : ℕ) → AtLeastAsSoon tau p f q g → s ≤ r → ServesFrom tau dwell q g s vs → ServesFrom tau dwell p f r vs × (delay_from tau dwell p f vs ≤ delay_from tau dwell q g vs)
+  pub ServesFrom-soon : (vs : List Visit) (p f r q g s : ℕ) → AtLeastAsSoon tau p f q g → s ≤ r → ServesFrom tau dwell q g s vs →
+      ServesFrom tau dwell p f r vs × (delay_from tau dwell p f vs ≤ delay_from tau dwell q g vs)
   ServesFrom-soon [] p f r q g s soon room serves = (tt, omega arith)
   ServesFrom-soon (v ∷ vs) p f r q g s soon room serves = search (rules, room_after-le, soon_there, lateness-le, (ServesFrom-soon vs))

@@ -1,6 +1,92 @@
-use Rattle.std.proofs.Common.{◌≡◌, ℕ, suc, ◌+◌, ◌-◌, ◌<◌, ◌≤◌, Bool, true, false, cond, not, eqb, ltb, List, [], ◌∷◌, length, map, filter, take, drop, refl, sym, ap, ◌∙◌, subst, arith, inl, inr, All, remove, rules}
+use Rattle.std.proofs.Common.{
+  ◌≡◌,
+  ℕ,
+  suc,
+  ◌+◌,
+  ◌-◌,
+  ◌<◌,
+  ◌≤◌,
+  Bool,
+  true,
+  false,
+  cond,
+  not,
+  eqb,
+  ltb,
+  List,
+  [],
+  ◌∷◌,
+  length,
+  map,
+  filter,
+  take,
+  drop,
+  refl,
+  sym,
+  ap,
+  ◌∙◌,
+  subst,
+  arith,
+  inl,
+  inr,
+  All,
+  remove,
+  rules,
+}
 use Rattle.std.proofs.lemmas.Bool.Decides.{nat_tests}
-use Rattle.stop_orders.proofs.Common.{AllByRecursion, cases_Bool, cases_lt, cond-true, cond-false, not_from_true, not_from_false, false≢true, length-remove, get_or-remove_below, get_or-remove_above, All-append, All-take, All-drop, never, IsTravelTime, Task, Stop, Pick, Drop, Alight, Visit, Pickup, Dropoff, is_of_rider, is_of_passenger, IsKnown, place_of, latest_of, boarding_of, room_after, lateness, ServesFrom, delay_from, no_leg, leg_at, persons, IsTask, visit_at, free_seats, IsOrderOf, Serves, order_delay, number_without, stop_without_rider, stop_without_passenger, stops_without_rider, stops_without_passenger, without_rider, without_passenger, StillServes}
+use Rattle.stop_orders.proofs.Common.{
+  AllByRecursion,
+  cases_Bool,
+  cases_lt,
+  cond-true,
+  cond-false,
+  not_from_true,
+  not_from_false,
+  false≢true,
+  length-remove,
+  get_or-remove_below,
+  get_or-remove_above,
+  All-append,
+  All-take,
+  All-drop,
+  never,
+  IsTravelTime,
+  Task,
+  Stop,
+  Pick,
+  Drop,
+  Alight,
+  Visit,
+  Pickup,
+  Dropoff,
+  is_of_rider,
+  is_of_passenger,
+  IsKnown,
+  place_of,
+  latest_of,
+  boarding_of,
+  room_after,
+  lateness,
+  ServesFrom,
+  delay_from,
+  no_leg,
+  leg_at,
+  persons,
+  IsTask,
+  visit_at,
+  free_seats,
+  IsOrderOf,
+  Serves,
+  order_delay,
+  number_without,
+  stop_without_rider,
+  stop_without_passenger,
+  stops_without_rider,
+  stops_without_passenger,
+  without_rider,
+  without_passenger,
+  StillServes,
+}
 use Rattle.std.proofs.lemmas.Bool.{eq-eqb, eqb-true, lt-ltb, le-ltb}
 use Rattle.std.proofs.lemmas.List.Sums.{sum_by-remove}
 use Rattle.stop_orders.specs.declared.task.leg.Leg.{Leg}
@@ -37,13 +123,16 @@ others mine s = not (mine s)
 
 module _ (points : ℕ) (tau : ℕ → ℕ → ℕ) (dwell : ℕ) (t : IsTravelTime points tau) where
   -- past a visit that is left out one is still as soon
-  soon_past : (p f q g : ℕ) (v : Visit) → AtLeastAsSoon tau p f q g → tau q (place_of v) < never → AtLeastAsSoon tau p f (place_of v) (g + tau q (place_of v) + dwell)
+  soon_past : (p f q g : ℕ) (v : Visit) → AtLeastAsSoon tau p f q g → tau q (place_of v) < never →
+      AtLeastAsSoon tau p f (place_of v) (g + tau q (place_of v) + dwell)
   soon_past p f q g v soon reach = search rules
 
   -- without the stops of one, the others are served, with no more delay
-  pub served_without : (vis : Stop → Visit) (mine : Stop → Bool) (stops : List Stop) (q g room p f more held : ℕ) → AtLeastAsSoon tau p f q g → room + held ≤ more → Holds vis held (filter mine stops)
+  pub served_without : (vis : Stop → Visit) (mine : Stop → Bool) (stops : List Stop) (q g room p f more held : ℕ) → AtLeastAsSoon tau p f q g →
+      room + held ≤ more → Holds vis held (filter mine stops)
       → ServesFrom tau dwell q g room (map vis stops)
-      → ServesFrom tau dwell p f more (map vis (filter (others mine) stops)) × (delay_from tau dwell p f (map vis (filter (others mine) stops)) ≤ delay_from tau dwell q g (map vis stops))
+      → ServesFrom tau dwell p f more (map vis (filter (others mine) stops)) × (delay_from tau dwell p f (map vis (filter (others mine) stops)) ≤ delay_from tau
+      dwell q g (map vis stops))
   served_without vis mine [] q g room p f more held soon seats holds serves = (tt, omega arith)
   served_without vis mine (s ∷ stops) q g room p f more held soon seats holds serves =
       let v = vis s in
@@ -52,33 +141,42 @@ module _ (points : ℕ) (tau : ℕ → ℕ → ℕ) (dwell : ℕ) (t : IsTravelT
             let own = subst (λ ss. Holds vis held ss) (takes mine s stops e) holds in
             let rest = served_without vis mine stops (place_of v) (g + tau q (place_of v) + dwell) (room_after v room) p f more (held_after v held)
             (soon_past p f q g v soon serves.0) (room_without v room held more serves.2 own.0 seats) own.1 serves.3 in
-            let less : delay_from tau dwell p f (map vis (filter (others mine) stops)) ≤ delay_from tau dwell q g (map vis (s ∷ stops)) = omega (arith, rest.1) in
-            subst (λ ss. ServesFrom tau dwell p f more (map vis ss) × (delay_from tau dwell p f (map vis ss) ≤ delay_from tau dwell q g (map vis (s ∷ stops)))) (sym (skips (others mine) s stops (not_from_true (mine s) e))) (rest.0, less)
+            let less : delay_from tau dwell p f (map vis (filter (others mine) stops)) ≤ delay_from tau dwell q g (map vis (s ∷ stops)) =
+            omega (arith, rest.1) in
+            subst (λ ss. ServesFrom tau dwell p f more (map vis ss) × (delay_from tau dwell p f (map vis ss) ≤ delay_from tau dwell q g (map vis (s ∷ stops))))
+            (sym (skips (others mine) s stops (not_from_true (mine s) e))) (rest.0, less)
         | inr e ↦
             let theirs = subst (λ ss. Holds vis held ss) (skips mine s stops e) holds in
             let hop = soon.soon (place_of v) serves.0 in
             let first : f + tau p (place_of v) ≤ g + tau q (place_of v) = hop.1 in
-            let rest = served_without vis mine stops (place_of v) (g + tau q (place_of v) + dwell) (room_after v room) (place_of v) (f + tau p (place_of v) + dwell) (room_after v more) held
-            (soon_there tau (place_of v) (f + tau p (place_of v) + dwell) (g + tau q (place_of v) + dwell) (omega arith)) (room_after-le v room more held serves.2 seats) theirs serves.3 in
+            let rest = served_without vis mine stops (place_of v) (g + tau q (place_of v) + dwell) (room_after v room) (place_of v)
+            (f + tau p (place_of v) + dwell) (room_after v more) held
+            (soon_there tau (place_of v) (f + tau p (place_of v) + dwell) (g + tau q (place_of v) + dwell) (omega arith))
+            (room_after-le v room more held serves.2 seats) theirs serves.3 in
             let late : lateness v (f + tau p (place_of v)) ≤ lateness v (g + tau q (place_of v)) = lateness-le v _ _ first in
             let in_time : f + tau p (place_of v) ≤ latest_of v = omega (arith, serves.1) in
             let board : boarding_of v ≤ more = omega (arith, serves.2) in
-            let less : delay_from tau dwell p f (map vis (s ∷ filter (others mine) stops)) ≤ delay_from tau dwell q g (map vis (s ∷ stops)) = omega (arith, rest.1, late) in
-            subst (λ ss. ServesFrom tau dwell p f more (map vis ss) × (delay_from tau dwell p f (map vis ss) ≤ delay_from tau dwell q g (map vis (s ∷ stops)))) (sym (takes (others mine) s stops (not_from_false (mine s) e))) ((hop.0, in_time, board, rest.0), less)
+            let less : delay_from tau dwell p f (map vis (s ∷ filter (others mine) stops)) ≤ delay_from tau dwell q g (map vis (s ∷ stops)) =
+            omega (arith, rest.1, late) in
+            subst (λ ss. ServesFrom tau dwell p f more (map vis ss) × (delay_from tau dwell p f (map vis ss) ≤ delay_from tau dwell q g (map vis (s ∷ stops))))
+            (sym (takes (others mine) s stops (not_from_false (mine s) e))) ((hop.0, in_time, board, rest.0), less)
       ]
 
 -- what a filter keeps of the renumbered others is the renumbering of what another keeps of all
-filter_renumbered : (p q : Stop → Bool) (g : Stop → Stop) (mine : Stop → Bool) → ((s : Stop) → mine s ≡ false → p (g s) ≡ q s) → ((s : Stop) → mine s ≡ true → q s ≡ false)
+filter_renumbered : (p q : Stop → Bool) (g : Stop → Stop) (mine : Stop → Bool) → ((s : Stop) → mine s ≡ false → p (g s) ≡ q s) →
+    ((s : Stop) → mine s ≡ true → q s ≡ false)
     → (stops : List Stop) → filter p (map g (filter (others mine) stops)) ≡ map g (filter q stops)
 filter_renumbered p q g mine same apart [] = refl
 filter_renumbered p q g mine same apart (s ∷ stops) = search (rules, cases_Bool, (filter_renumbered p q g mine same apart stops))
 
 -- the others are seen as before
-pub visits_renumbered : (vis old : Stop → Visit) (g : Stop → Stop) (mine : Stop → Bool) → ((s : Stop) → mine s ≡ false → vis (g s) ≡ old s) → (stops : List Stop) → map vis (map g (filter (others mine) stops)) ≡ map old (filter (others mine) stops)
+pub visits_renumbered : (vis old : Stop → Visit) (g : Stop → Stop) (mine : Stop → Bool) → ((s : Stop) → mine s ≡ false → vis (g s) ≡ old s) →
+    (stops : List Stop) → map vis (map g (filter (others mine) stops)) ≡ map old (filter (others mine) stops)
 visits_renumbered vis old g mine same [] = refl
 visits_renumbered vis old g mine same (s ∷ stops) = search (rules, cases_Bool, (visits_renumbered vis old g mine same stops))
 
-known_renumbered : (P Q : Stop → Type 0) (g : Stop → Stop) (mine : Stop → Bool) → ((s : Stop) → mine s ≡ false → P s → Q (g s)) → (stops : List Stop) → AllByRecursion P stops → AllByRecursion Q (map g (filter (others mine) stops))
+known_renumbered : (P Q : Stop → Type 0) (g : Stop → Stop) (mine : Stop → Bool) → ((s : Stop) → mine s ≡ false → P s → Q (g s)) → (stops : List Stop) →
+    AllByRecursion P stops → AllByRecursion Q (map g (filter (others mine) stops))
 known_renumbered P Q g mine move [] known = tt
 known_renumbered P Q g mine move (s ∷ stops) known = search (rules, cases_Bool, (known_renumbered P Q g mine move stops known.1))
 
@@ -132,7 +230,8 @@ module _ (points : ℕ) (task : Task) (valid : IsTask points task) where
 
     visit_without_rider : (s : Stop) → is_of_rider i s ≡ false → visit_at (without_rider i task) (stop_without_rider i s) ≡ visit_at task s
     visit_without_rider (Pick k) e = ap (λ leg. Pickup leg.origin leg.latest_pickup leg.party) (leg_without task.riders.items i k within (not_same k i e))
-    visit_without_rider (Drop k) e = ap (λ leg. Dropoff leg.destination leg.latest_dropoff leg.ideal leg.party) (leg_without task.riders.items i k within (not_same k i e))
+    visit_without_rider (Drop k) e = ap (λ leg. Dropoff leg.destination leg.latest_dropoff leg.ideal leg.party)
+        (leg_without task.riders.items i k within (not_same k i e))
     visit_without_rider (Alight k) e = refl
 
     rider_tests : (j : ℕ) (s : Stop) → is_of_rider i s ≡ false → is_of_rider j (stop_without_rider i s) ≡ is_of_rider (old_number i j) s
@@ -153,30 +252,37 @@ module _ (points : ℕ) (task : Task) (valid : IsTask points task) where
     passenger_apart j (Alight k) e = absurd (false≢true e)
     passenger_apart j _ e = refl
 
-    rider_known : (s : Stop) → is_of_rider i s ≡ false → IsKnown (length task.riders.items) (length task.aboard.items) s → IsKnown (length (remove task.riders.items i)) (length task.aboard.items) (stop_without_rider i s)
+    rider_known : (s : Stop) → is_of_rider i s ≡ false → IsKnown (length task.riders.items) (length task.aboard.items) s →
+        IsKnown (length (remove task.riders.items i)) (length task.aboard.items) (stop_without_rider i s)
     rider_known (Pick k) e h = number_without-lt i k (length task.riders.items) (length (remove task.riders.items i)) within fewer (not_same k i e) h
     rider_known (Drop k) e h = number_without-lt i k (length task.riders.items) (length (remove task.riders.items i)) within fewer (not_same k i e) h
     rider_known (Alight k) e h = h
 
     order_without_rider : (stops : List Stop) → IsOrderOf task stops → IsOrderOf (without_rider i task) (stops_without_rider i stops)
     order_without_rider stops order = record {
-      rides = λ j h. filter_renumbered (is_of_rider j) (is_of_rider (old_number i j)) (stop_without_rider i) (is_of_rider i) (rider_tests j) (rider_apart j) stops
-          ∙ ap (λ ss. map (stop_without_rider i) ss) (order.rides (old_number i j) (old_number-lt i j (length task.riders.items) (length (remove task.riders.items i)) within fewer h))
+      rides = λ j h. filter_renumbered (is_of_rider j) (is_of_rider (old_number i j)) (stop_without_rider i) (is_of_rider i) (rider_tests j) (rider_apart j)
+          stops
+          ∙ ap (λ ss. map (stop_without_rider i) ss)
+          (order.rides (old_number i j) (old_number-lt i j (length task.riders.items) (length (remove task.riders.items i)) within fewer h))
           ∙ ap (λ n. Pick n ∷ Drop n ∷ []) (renumbered_back i j);
-      alights = λ j h. filter_renumbered (is_of_passenger j) (is_of_passenger j) (stop_without_rider i) (is_of_rider i) (passenger_tests j) (passenger_apart j) stops
+      alights = λ j h. filter_renumbered (is_of_passenger j) (is_of_passenger j) (stop_without_rider i) (is_of_rider i) (passenger_tests j) (passenger_apart j)
+          stops
           ∙ ap (λ ss. map (stop_without_rider i) ss) (order.alights j h);
-      known = known_renumbered (IsKnown (length task.riders.items) (length task.aboard.items)) (IsKnown (length (remove task.riders.items i)) (length task.aboard.items)) (stop_without_rider i) (is_of_rider i) rider_known stops order.known;
+      known = known_renumbered (IsKnown (length task.riders.items) (length task.aboard.items))
+          (IsKnown (length (remove task.riders.items i)) (length task.aboard.items)) (stop_without_rider i) (is_of_rider i) rider_known stops order.known;
     }
 
     rider_holds : Holds (visit_at task) 0 (Pick i ∷ Drop i ∷ [])
     unfolding leaving_of held_after
     rider_holds = (omega arith, (omega arith, tt))
 
-    pub rider_left_out : (tau : ℕ → ℕ → ℕ) → IsTravelTime points tau → (stops : List Stop) → Serves tau task stops → StillServes points tau task (without_rider i task) stops (stops_without_rider i stops)
+    pub rider_left_out : (tau : ℕ → ℕ → ℕ) → IsTravelTime points tau → (stops : List Stop) → Serves tau task stops →
+        StillServes points tau task (without_rider i task) stops (stops_without_rider i stops)
     rider_left_out tau t stops serves =
         let seen = visits_renumbered (visit_at (without_rider i task)) (visit_at task) (stop_without_rider i) (is_of_rider i) visit_without_rider stops in
         let holds = subst (λ ss. Holds (visit_at task) 0 ss) (sym (serves.order.rides i within)) rider_holds in
-        let rest = served_without points tau task.dwell t (visit_at task) (is_of_rider i) stops task.start task.ready (free_seats task) task.start task.ready (free_seats task) 0
+        let rest = served_without points tau task.dwell t (visit_at task) (is_of_rider i) stops task.start task.ready (free_seats task) task.start task.ready
+        (free_seats task) 0
         (soon_there tau task.start task.ready task.ready (omega arith)) (omega arith) holds serves.in_time in
         record {
           valid = valid_without_rider;
@@ -198,7 +304,8 @@ module _ (points : ℕ) (task : Task) (valid : IsTask points task) where
     valid_without_passenger = search (rules, persons_without, fewer_aboard, All-remove)
 
     pub visit_without_passenger : (s : Stop) → is_of_passenger j s ≡ false → visit_at (without_passenger j task) (stop_without_passenger j s) ≡ visit_at task s
-    visit_without_passenger (Alight k) e = ap (λ leg. Dropoff leg.destination leg.latest_dropoff leg.ideal leg.party) (leg_without task.aboard.items j k within (not_same k j e))
+    visit_without_passenger (Alight k) e = ap (λ leg. Dropoff leg.destination leg.latest_dropoff leg.ideal leg.party)
+        (leg_without task.aboard.items j k within (not_same k j e))
     visit_without_passenger _ e = refl
 
     out_tests : (k : ℕ) (s : Stop) → is_of_passenger j s ≡ false → is_of_passenger k (stop_without_passenger j s) ≡ is_of_passenger (old_number j k) s
@@ -217,7 +324,8 @@ module _ (points : ℕ) (task : Task) (valid : IsTask points task) where
     in_apart k (Alight n) e = refl
     in_apart k _ e = absurd (false≢true e)
 
-    out_known : (s : Stop) → is_of_passenger j s ≡ false → IsKnown (length task.riders.items) (length task.aboard.items) s → IsKnown (length task.riders.items) (length (remove task.aboard.items j)) (stop_without_passenger j s)
+    out_known : (s : Stop) → is_of_passenger j s ≡ false → IsKnown (length task.riders.items) (length task.aboard.items) s →
+        IsKnown (length task.riders.items) (length (remove task.aboard.items j)) (stop_without_passenger j s)
     out_known (Alight k) e h = number_without-lt j k (length task.aboard.items) (length (remove task.aboard.items j)) within fewer_aboard (not_same k j e) h
     out_known _ e h = h
 
@@ -225,22 +333,29 @@ module _ (points : ℕ) (task : Task) (valid : IsTask points task) where
     order_without_passenger stops order = record {
       rides = λ k h. filter_renumbered (is_of_rider k) (is_of_rider k) (stop_without_passenger j) (is_of_passenger j) (in_tests k) (in_apart k) stops
           ∙ ap (λ ss. map (stop_without_passenger j) ss) (order.rides k h);
-      alights = λ k h. filter_renumbered (is_of_passenger k) (is_of_passenger (old_number j k)) (stop_without_passenger j) (is_of_passenger j) (out_tests k) (out_apart k) stops
-          ∙ ap (λ ss. map (stop_without_passenger j) ss) (order.alights (old_number j k) (old_number-lt j k (length task.aboard.items) (length (remove task.aboard.items j)) within fewer_aboard h))
+      alights = λ k h. filter_renumbered (is_of_passenger k) (is_of_passenger (old_number j k)) (stop_without_passenger j) (is_of_passenger j) (out_tests k)
+          (out_apart k) stops
+          ∙ ap (λ ss. map (stop_without_passenger j) ss)
+          (order.alights (old_number j k) (old_number-lt j k (length task.aboard.items) (length (remove task.aboard.items j)) within fewer_aboard h))
           ∙ ap (λ n. Alight n ∷ []) (renumbered_back j k);
-      known = known_renumbered (IsKnown (length task.riders.items) (length task.aboard.items)) (IsKnown (length task.riders.items) (length (remove task.aboard.items j))) (stop_without_passenger j) (is_of_passenger j) out_known stops order.known;
+      known = known_renumbered (IsKnown (length task.riders.items) (length task.aboard.items))
+          (IsKnown (length task.riders.items) (length (remove task.aboard.items j))) (stop_without_passenger j) (is_of_passenger j) out_known stops order.known;
     }
 
     passenger_holds : Holds (visit_at task) (leg_at task.aboard.items j).party (Alight j ∷ [])
     unfolding leaving_of held_after
     passenger_holds = (omega arith, tt)
 
-    pub passenger_left_out : (tau : ℕ → ℕ → ℕ) → IsTravelTime points tau → (stops : List Stop) → Serves tau task stops → StillServes points tau task (without_passenger j task) stops (stops_without_passenger j stops)
+    pub passenger_left_out : (tau : ℕ → ℕ → ℕ) → IsTravelTime points tau → (stops : List Stop) → Serves tau task stops →
+        StillServes points tau task (without_passenger j task) stops (stops_without_passenger j stops)
     passenger_left_out tau t stops serves =
-        let seen = visits_renumbered (visit_at (without_passenger j task)) (visit_at task) (stop_without_passenger j) (is_of_passenger j) visit_without_passenger stops in
+        let seen = visits_renumbered (visit_at (without_passenger j task)) (visit_at task) (stop_without_passenger j) (is_of_passenger j)
+        visit_without_passenger stops in
         let holds = subst (λ ss. Holds (visit_at task) (leg_at task.aboard.items j).party ss) (sym (serves.order.alights j within)) passenger_holds in
-        let seats : free_seats task + (leg_at task.aboard.items j).party ≤ free_seats (without_passenger j task) = omega (arith, persons_without, valid.seated) in
-        let rest = served_without points tau task.dwell t (visit_at task) (is_of_passenger j) stops task.start task.ready (free_seats task) task.start task.ready (free_seats (without_passenger j task)) (leg_at task.aboard.items j).party
+        let seats : free_seats task + (leg_at task.aboard.items j).party ≤ free_seats (without_passenger j task) =
+        omega (arith, persons_without, valid.seated) in
+        let rest = served_without points tau task.dwell t (visit_at task) (is_of_passenger j) stops task.start task.ready (free_seats task) task.start
+        task.ready (free_seats (without_passenger j task)) (leg_at task.aboard.items j).party
         (soon_there tau task.start task.ready task.ready (omega arith)) seats holds serves.in_time in
         record {
           valid = valid_without_passenger;

@@ -1,6 +1,58 @@
 use Rattle.std.proofs.lemmas.Bool.Decides.{nat_tests}
-use Rattle.std.proofs.Common.{◌≡◌, ℕ, zero, suc, ◌+◌, ◌*◌, ◌<◌, ◌≤◌, Bool, true, false, eqb, List, [], ◌∷◌, length, filter, refl, sym, ap, ◌∙◌, subst, arith, inl, inr, bit_or, rules}
-use Rattle.stop_orders.proofs.Common.{cases_eq, bit_at-zero, bit_at_or, bit_at-pow_same, bit_at-pow_other, bit_at-lt, Stop, Pick, Drop, Alight, is_of_rider, is_of_passenger, IsOrder, has, with_bit, with_stop, IsNextStop, IsAllDone, left_of_rider, left_of_passenger, Completes, sum_below, left_count}
+use Rattle.std.proofs.Common.{
+  ◌≡◌,
+  ℕ,
+  zero,
+  suc,
+  ◌+◌,
+  ◌*◌,
+  ◌<◌,
+  ◌≤◌,
+  Bool,
+  true,
+  false,
+  eqb,
+  List,
+  [],
+  ◌∷◌,
+  length,
+  filter,
+  refl,
+  sym,
+  ap,
+  ◌∙◌,
+  subst,
+  arith,
+  inl,
+  inr,
+  bit_or,
+  rules,
+}
+use Rattle.stop_orders.proofs.Common.{
+  cases_eq,
+  bit_at-zero,
+  bit_at_or,
+  bit_at-pow_same,
+  bit_at-pow_other,
+  bit_at-lt,
+  Stop,
+  Pick,
+  Drop,
+  Alight,
+  is_of_rider,
+  is_of_passenger,
+  IsOrder,
+  has,
+  with_bit,
+  with_stop,
+  IsNextStop,
+  IsAllDone,
+  left_of_rider,
+  left_of_passenger,
+  Completes,
+  sum_below,
+  left_count,
+}
 use Rattle.std.proofs.lemmas.Bool.{eq-eqb, ne_eqb}
 use Rattle.stop_orders.proofs.lemmas.task.DeletionLemmas.{skips, takes}
 
@@ -24,13 +76,15 @@ same : (i : ℕ) → eqb i i ≡ true
 same i = eq-eqb i i refl
 
 -- who has a pickup in front was not picked up yet
-pick_left : (picked dropped : Bool) (i : ℕ) (rest : List Stop) → Pick i ∷ rest ≡ left_of_rider picked dropped i → (picked ≡ false) × (dropped ≡ false) × (rest ≡ Drop i ∷ [])
+pick_left : (picked dropped : Bool) (i : ℕ) (rest : List Stop) → Pick i ∷ rest ≡ left_of_rider picked dropped i →
+    (picked ≡ false) × (dropped ≡ false) × (rest ≡ Drop i ∷ [])
 pick_left picked true i rest e = absurd cc
 pick_left true false i rest e = absurd cc
 pick_left false false i rest e = (refl, refl, cc)
 
 -- who has a drop-off in front was picked up
-drop_left : (picked dropped : Bool) (i : ℕ) (rest : List Stop) → Drop i ∷ rest ≡ left_of_rider picked dropped i → (picked ≡ true) × (dropped ≡ false) × (rest ≡ [])
+drop_left : (picked dropped : Bool) (i : ℕ) (rest : List Stop) → Drop i ∷ rest ≡ left_of_rider picked dropped i →
+    (picked ≡ true) × (dropped ≡ false) × (rest ≡ [])
 drop_left picked true i rest e = absurd cc
 drop_left true false i rest e = (refl, refl, cc)
 drop_left false false i rest e = absurd cc
@@ -41,13 +95,15 @@ alight_left false j rest e = (refl, cc)
 
 module _ (riders passengers done : ℕ) (few : riders ≤ 6) where
   -- what may stand in front of a rest, and what the rest then completes
-  pub Completes-front : (s : Stop) (rest : List Stop) → Completes riders passengers done (s ∷ rest) → IsNextStop riders passengers done s × Completes riders passengers (with_stop done s) rest
+  pub Completes-front : (s : Stop) (rest : List Stop) → Completes riders passengers done (s ∷ rest) →
+      IsNextStop riders passengers done s × Completes riders passengers (with_stop done s) rest
   Completes-front (Pick i) rest c = grind (arith, nat_tests, pick_left, takes, (same i), has-with_same, has-with_other, skips, (ne_eqb i))
   Completes-front (Drop i) rest c = grind (arith, nat_tests, drop_left, takes, (same i), has-with_same, skips, (ne_eqb i), has-with_other)
   Completes-front (Alight j) rest c = grind (arith, nat_tests, alight_left, takes, (same j), has-with_other, has-with_same, skips, (ne_eqb j))
 
   -- a stop that may come next in front of a rest that completes what is done with it
-  pub Completes-back : (s : Stop) (rest : List Stop) → IsNextStop riders passengers done s → Completes riders passengers (with_stop done s) rest → Completes riders passengers done (s ∷ rest)
+  pub Completes-back : (s : Stop) (rest : List Stop) → IsNextStop riders passengers done s → Completes riders passengers (with_stop done s) rest →
+      Completes riders passengers done (s ∷ rest)
   Completes-back (Pick i) rest next c = record {
     rides = λ k h. elim (cases_eq i k) [
       | inl e ↦ subst (λ n. filter (is_of_rider n) (Pick i ∷ rest) ≡ left_of_rider (has done n) (has done (6 + n)) n) e
@@ -124,35 +180,45 @@ sum_below-most f most zero h = omega arith
 sum_below-most f most (suc n) h = search (rules, (sum_below-most f most n h))
 
 -- a stop that is done is one less to do
-pub left_count-falls : (riders passengers done : ℕ) → riders ≤ 6 → (s : Stop) → IsNextStop riders passengers done s → left_count riders passengers (with_stop done s) + 1 ≤ left_count riders passengers done
+pub left_count-falls : (riders passengers done : ℕ) → riders ≤ 6 → (s : Stop) → IsNextStop riders passengers done s →
+    left_count riders passengers (with_stop done s) + 1 ≤ left_count riders passengers done
 unfolding left_count
 left_count-falls riders passengers done few (Pick i) next =
-    let here : length (left_of_rider (has (with_bit done i) i) (has (with_bit done i) (6 + i)) i) + 1 ≤ length (left_of_rider (has done i) (has done (6 + i)) i) =
+    let here : length (left_of_rider (has (with_bit done i) i) (has (with_bit done i) (6 + i)) i) + 1 ≤ length
+    (left_of_rider (has done i) (has done (6 + i)) i) =
     rw (has-with_same done i, has-with_other done i (6 + i) (λ q. omega arith), next.1, next.2) (omega arith) in
-    let fall = sum_below-falls (λ k. length (left_of_rider (has done k) (has done (6 + k)) k)) (λ k. length (left_of_rider (has (with_bit done i) k) (has (with_bit done i) (6 + k)) k)) riders i next.0
+    let fall = sum_below-falls (λ k. length (left_of_rider (has done k) (has done (6 + k)) k))
+    (λ k. length (left_of_rider (has (with_bit done i) k) (has (with_bit done i) (6 + k)) k)) riders i next.0
     (λ k l ne. rw (has-with_other done i k ne, has-with_other done i (6 + k) (λ q. omega arith)) (omega arith)) here in
-    let keep = sum_below-le (λ j. length (left_of_passenger (has done (12 + j)) j)) (λ j. length (left_of_passenger (has (with_bit done i) (12 + j)) j)) passengers
+    let keep = sum_below-le (λ j. length (left_of_passenger (has done (12 + j)) j)) (λ j. length (left_of_passenger (has (with_bit done i) (12 + j)) j))
+    passengers
     (λ j h. rw (has-with_other done i (12 + j) (λ q. omega arith)) (omega arith)) in
     omega (arith, fall, keep)
 left_count-falls riders passengers done few (Drop i) next =
-    let here : length (left_of_rider (has (with_bit done (6 + i)) i) (has (with_bit done (6 + i)) (6 + i)) i) + 1 ≤ length (left_of_rider (has done i) (has done (6 + i)) i) =
+    let here : length (left_of_rider (has (with_bit done (6 + i)) i) (has (with_bit done (6 + i)) (6 + i)) i) + 1 ≤ length
+    (left_of_rider (has done i) (has done (6 + i)) i) =
     rw (has-with_same done (6 + i), next.1, next.2) (omega arith) in
-    let fall = sum_below-falls (λ k. length (left_of_rider (has done k) (has done (6 + k)) k)) (λ k. length (left_of_rider (has (with_bit done (6 + i)) k) (has (with_bit done (6 + i)) (6 + k)) k)) riders i next.0
+    let fall = sum_below-falls (λ k. length (left_of_rider (has done k) (has done (6 + k)) k))
+    (λ k. length (left_of_rider (has (with_bit done (6 + i)) k) (has (with_bit done (6 + i)) (6 + k)) k)) riders i next.0
     (λ k l ne. rw (has-with_other done (6 + i) k (λ q. omega arith), has-with_other done (6 + i) (6 + k) (λ q. ne (omega arith))) (omega arith)) here in
-    let keep = sum_below-le (λ j. length (left_of_passenger (has done (12 + j)) j)) (λ j. length (left_of_passenger (has (with_bit done (6 + i)) (12 + j)) j)) passengers
+    let keep = sum_below-le (λ j. length (left_of_passenger (has done (12 + j)) j)) (λ j. length (left_of_passenger (has (with_bit done (6 + i)) (12 + j)) j))
+    passengers
     (λ j h. rw (has-with_other done (6 + i) (12 + j) (λ q. omega arith)) (omega arith)) in
     omega (arith, fall, keep)
 left_count-falls riders passengers done few (Alight j) next =
     let here : length (left_of_passenger (has (with_bit done (12 + j)) (12 + j)) j) + 1 ≤ length (left_of_passenger (has done (12 + j)) j) =
     rw (has-with_same done (12 + j), next.1) (omega arith) in
-    let fall = sum_below-falls (λ k. length (left_of_passenger (has done (12 + k)) k)) (λ k. length (left_of_passenger (has (with_bit done (12 + j)) (12 + k)) k)) passengers j next.0
+    let fall = sum_below-falls (λ k. length (left_of_passenger (has done (12 + k)) k)) (λ k. length
+    (left_of_passenger (has (with_bit done (12 + j)) (12 + k)) k)) passengers j next.0
     (λ k l ne. rw (has-with_other done (12 + j) (12 + k) (λ q. ne (omega arith))) (omega arith)) here in
-    let keep = sum_below-le (λ k. length (left_of_rider (has done k) (has done (6 + k)) k)) (λ k. length (left_of_rider (has (with_bit done (12 + j)) k) (has (with_bit done (12 + j)) (6 + k)) k)) riders
+    let keep = sum_below-le (λ k. length (left_of_rider (has done k) (has done (6 + k)) k))
+    (λ k. length (left_of_rider (has (with_bit done (12 + j)) k) (has (with_bit done (12 + j)) (6 + k)) k)) riders
     (λ k h. rw (has-with_other done (12 + j) k (λ q. omega arith), has-with_other done (12 + j) (6 + k) (λ q. omega arith)) (omega arith)) in
     omega (arith, fall, keep)
 
 -- a rest is no longer than what is left to do
-pub length-Completes : (riders passengers done : ℕ) → riders ≤ 6 → (rest : List Stop) → Completes riders passengers done rest → length rest ≤ left_count riders passengers done
+pub length-Completes : (riders passengers done : ℕ) → riders ≤ 6 → (rest : List Stop) → Completes riders passengers done rest →
+    length rest ≤ left_count riders passengers done
 length-Completes riders passengers done few [] c = omega arith
 length-Completes riders passengers done few (s ∷ rest) c =
     let front = Completes-front riders passengers done few s rest c in
@@ -171,10 +237,17 @@ passenger_stops-most false j = omega arith
 pub left_count-most : (riders passengers done : ℕ) → left_count riders passengers done ≤ riders * 2 + passengers
 unfolding left_count
 left_count-most riders passengers done =
-    let both = sum_below-most (λ i. length (left_of_rider (has done i) (has done (6 + i)) i)) 2 riders (λ i. rider_stops-most (has done i) (has done (6 + i)) i) in
+    let both = sum_below-most (λ i. length (left_of_rider (has done i) (has done (6 + i)) i)) 2 riders
+    (λ i. rider_stops-most (has done i) (has done (6 + i)) i) in
     let once = sum_below-most (λ j. length (left_of_passenger (has done (12 + j)) j)) 1 passengers (λ j. passenger_stops-most (has done (12 + j)) j) in
     omega (arith, both, once)
 
 -- an order has at most twice as many stops as riders, and one for each passenger
 pub length-IsOrder : (riders passengers : ℕ) (stops : List Stop) → riders ≤ 6 → IsOrder riders passengers stops → length stops ≤ riders * 2 + passengers
-length-IsOrder riders passengers stops few o = grind (arith, nat_tests, (left_count-most riders passengers 0), (length-Completes riders passengers 0 few stops), (Completes-none riders passengers stops o))
+length-IsOrder riders passengers stops few o = grind (
+  arith,
+  nat_tests,
+  (left_count-most riders passengers 0),
+  (length-Completes riders passengers 0 few stops),
+  (Completes-none riders passengers stops o),
+)

@@ -10,7 +10,8 @@ loop-low-preserved-then-is_before c =
       start_low = omega (arith, s.start_low, at.from);
       low_high = omega (arith, at.below);
       within = s.within;
-      before = λ k h. before_up_to c.args.pairs.now c.requires m k (c.args.a, c.args.b) (omega (arith, s.within, at.below)) (c.is_before.ensures.0 c.if-is_before.true) h;
+      before = λ k h. before_up_to c.args.pairs.now c.requires m k (c.args.a, c.args.b) (omega (arith, s.within, at.below))
+          (c.is_before.ensures.0 c.if-is_before.true) h;
       after = s.after;
     }
 
@@ -22,5 +23,6 @@ loop-low-preserved c =
       low_high = at.from;
       within = omega (arith, s.within, at.below);
       before = s.before;
-      after = λ k h b. not_before_from c.args.pairs.now c.requires m k (c.args.a, c.args.b) (λ is. both_ways _ c.if-is_before.false (c.is_before.ensures.1 is)) h b;
+      after = λ k h b. not_before_from c.args.pairs.now c.requires m k (c.args.a, c.args.b) (λ is. both_ways _ c.if-is_before.false (c.is_before.ensures.1 is))
+          h b;
     }

@@ -16,7 +16,8 @@ stands_there pairs q place are before after found =
       | inl early ↦ absurd (not_before_itself q (subst (λ p. IsBefore p q) at (before found.0 early)))
       | inr late ↦ elim (cases_lt place found.0) [
         | inl later ↦
-            let first : IsBefore (slice_index_or pairs place (0, 0)) q = subst (λ p. IsBefore (slice_index_or pairs place (0, 0)) p) at (pairs_before pairs are place found.0 later found.1) in
+            let first : IsBefore (slice_index_or pairs place (0, 0)) q = subst (λ p. IsBefore (slice_index_or pairs place (0, 0)) p) at
+            (pairs_before pairs are place found.0 later found.1) in
             absurd (after place (omega arith) (omega (arith, found.1)) first)
         | inr same ↦
             let e : found.0 ≡ place = omega arith in
@@ -36,5 +37,6 @@ pub returns : goal.returns
 returns c =
     let place = c.args.place in (
       λ is. (place, c.if-place-pairs.false, get_or_default c.args.pairs.now place (c.args.a, c.args.b) (0, 0) c.if-place-pairs.false ∙ c.is_pair.ensures.0 is),
-      λ found. c.is_pair.ensures.1 (stands_there c.args.pairs.now (c.args.a, c.args.b) place c.requires.pairs c.requires.first.before c.requires.first.after found).1,
+      λ found. c.is_pair.ensures.1 (stands_there c.args.pairs.now (c.args.a, c.args.b) place c.requires.pairs c.requires.first.before c.requires.first.after
+          found).1,
     )

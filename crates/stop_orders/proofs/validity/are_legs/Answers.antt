@@ -9,4 +9,8 @@ loop-leg-preserved c =
     All-more (IsLeg c.args.points) c.args.legs.now c.loop-leg.leg-index c.leg-item.result c.loop-leg-test.true c.loop-leg.invariant here
 
 pub returns : goal.returns
-returns c = (λ _. subst (λ xs. All (IsLeg c.args.points) xs) (take_all c.loop-leg.leg-index c.args.legs.now c.loop-leg-test.false) c.loop-leg.invariant, λ _. refl)
+returns c = (
+  λ _. subst (λ xs. All (IsLeg c.args.points) xs) (take_all c.loop-leg.leg-index c.args.legs.now c.loop-leg-test.false) c.loop-leg.invariant,
+  λ _.
+      refl,
+)

@@ -35,18 +35,20 @@ module _ (X : Type 0) (pair : X → ℕ × ℕ) (entry : ℕ → ℕ → X) (non
       let n = length_push xs x in
       record {
         right = All-push (λ y. E (pair y).0 (pair y).1) xs x l.right (rw is e);
-        rising = λ k h. elim (cases_lt (k + 1) (length xs)) as (λ _. IsBefore (pair (get_or (xs ++ x ∷ []) k none)) (pair (get_or (xs ++ x ∷ []) (k + 1) none))) [
-          | inl lt ↦
-              let low : k < length xs = omega arith in
-              rw (get_or_append_left xs (x ∷ []) none k low, get_or_append_left xs (x ∷ []) none (k + 1) lt) (l.rising k lt)
-          | inr ge ↦
-              let low : k < length xs = omega arith in let last : length xs ≡ k + 1 = omega arith in
-              rw (get_or_append_left xs (x ∷ []) none k low, get_or_push xs x none (k + 1) last, is) (l.before k none low)
-        ];
+        rising = λ k h. elim (cases_lt (k + 1) (length xs)) as (λ _. IsBefore (pair (get_or (xs ++ x ∷ []) k none))
+            (pair (get_or (xs ++ x ∷ []) (k + 1) none))) [
+              | inl lt ↦
+                  let low : k < length xs = omega arith in
+                  rw (get_or_append_left xs (x ∷ []) none k low, get_or_append_left xs (x ∷ []) none (k + 1) lt) (l.rising k lt)
+              | inr ge ↦
+                  let low : k < length xs = omega arith in let last : length xs ≡ k + 1 = omega arith in
+                  rw (get_or_append_left xs (x ∷ []) none k low, get_or_push xs x none (k + 1) last, is) (l.before k none low)
+            ];
         before = All-push (λ y. IsBefore (pair y) (a, b + 1)) xs x (λ k d h. next_before _ a b (l.before k d h)) (rw is (omega arith, λ _. omega arith));
         whole = λ c d f h. ⊎_elim
             (λ w. Contains-append_left xs (x ∷ []) (entry c d) (l.whole c d f w))
-            (λ w. subst (λ (y : X). Contains (xs ++ x ∷ []) y) (same ∙ ap (λ (i : ℕ). entry i b) (sym w.0) ∙ ap (λ (i : ℕ). entry c i) (sym w.1)) (Contains-push xs x))
+            (λ w. subst (λ (y : X). Contains (xs ++ x ∷ []) y) (same ∙ ap (λ (i : ℕ). entry i b) (sym w.0) ∙ ap (λ (i : ℕ). entry c i) (sym w.1))
+            (Contains-push xs x))
             (before_next (c, d) a b h);
       }
 
@@ -56,7 +58,8 @@ module _ (X : Type 0) (pair : X → ℕ × ℕ) (entry : ℕ → ℕ → X) (non
         right = l.right;
         rising = l.rising;
         before = λ k d h. next_before _ a b (l.before k d h);
-        whole = λ c d f h. ⊎_elim (λ w. l.whole c d f w) (λ w. absurd (never (subst (λ (i : ℕ). E a i) w.1 (subst (λ (i : ℕ). E i d) w.0 f)))) (before_next (c, d) a b h);
+        whole = λ c d f h. ⊎_elim (λ w. l.whole c d f w) (λ w. absurd (never (subst (λ (i : ℕ). E a i) w.1 (subst (λ (i : ℕ). E i d) w.0 f))))
+            (before_next (c, d) a b h);
       }
 
   -- the pairs between two second numbers are none

@@ -44,7 +44,8 @@ lower_back (z ∷ zs) (x ∷ xs) c e (inl h) = inl (inl h)
 lower_back (z ∷ zs) (x ∷ xs) c e (inr h) = search (rules, (lower_back zs xs c))
 
 -- a trip after q and x, and not after q and z, begins with q
-pub squeeze : (q y : List ℕ) (x z : ℕ) → length y ≡ length q + 1 → IsLower (q ++ x ∷ []) y → IsLower y (q ++ z ∷ []) ⊎ (y ≡ q ++ z ∷ []) → (w : ℕ) × (y ≡ q ++ w ∷ [])
+pub squeeze : (q y : List ℕ) (x z : ℕ) → length y ≡ length q + 1 → IsLower (q ++ x ∷ []) y → IsLower y (q ++ z ∷ []) ⊎ (y ≡ q ++ z ∷ []) →
+    (w : ℕ) × (y ≡ q ++ w ∷ [])
 squeeze q y x z e h (inr k) = (z, k)
 squeeze [] [] x z e h (inl k) = absurd k
 squeeze [] (v ∷ []) x z e h (inl k) = (v, refl)

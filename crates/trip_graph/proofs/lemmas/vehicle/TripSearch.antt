@@ -33,7 +33,8 @@ module _ (rows : List TripOf) (trip : List ℕ) (sized : All (λ row. length row
   size_at i h = size_of (length trip) rows i sized h
 
   -- what the comparison with the row at a place says
-  pub compared_at : (i : ℕ) (row : TripOf) (s : List ℕ) (r o : Ordering) → i < length rows → s ≡ (get_or rows i row).riders.items → r ≡ slice_cmp nat_cmp s trip → r ≡ o
+  pub compared_at : (i : ℕ) (row : TripOf) (s : List ℕ) (r o : Ordering) → i < length rows → s ≡ (get_or rows i row).riders.items →
+      r ≡ slice_cmp nat_cmp s trip → r ≡ o
       → MatchOrdering o (IsLower (get_or (trips_of rows) i []) trip) (get_or (trips_of rows) i [] ≡ trip) (IsLower trip (get_or (trips_of rows) i []))
   compared_at i row s r o h same cmp e = search (rules, trip_at, compared, size_at)
 
@@ -42,7 +43,8 @@ module _ (rows : List TripOf) (trip : List ℕ) (sized : All (λ row. length row
     in_order i j h k = search (rules, length-map, size_at, same_size)
 
     -- the rows up to one that is lower are lower
-    pub lower_upto : (middle : ℕ) → middle < length rows → IsLower (get_or (trips_of rows) middle []) trip → (i : ℕ) → i < middle + 1 → IsLower (get_or (trips_of rows) i []) trip
+    pub lower_upto : (middle : ℕ) → middle < length rows → IsLower (get_or (trips_of rows) middle []) trip → (i : ℕ) → i < middle + 1 →
+        IsLower (get_or (trips_of rows) i []) trip
     lower_upto middle h low i k =
         elim (cases_lt i middle) as (λ _. IsLower (get_or (trips_of rows) i []) trip) [
           | inl lt ↦ lower_trans _ _ _ (in_order i middle lt h) low
@@ -50,7 +52,8 @@ module _ (rows : List TripOf) (trip : List ℕ) (sized : All (λ row. length row
         ]
 
     -- the rows from one that is higher are higher
-    pub higher_from : (middle : ℕ) → middle < length rows → IsLower trip (get_or (trips_of rows) middle []) → (i : ℕ) → middle ≤ i → i < length rows → IsLower trip (get_or (trips_of rows) i [])
+    pub higher_from : (middle : ℕ) → middle < length rows → IsLower trip (get_or (trips_of rows) middle []) → (i : ℕ) → middle ≤ i → i < length rows →
+        IsLower trip (get_or (trips_of rows) i [])
     higher_from middle h high i k n = search (rules, cases_lt, lower_trans, in_order)
 
   -- a trip at a place stands in the list

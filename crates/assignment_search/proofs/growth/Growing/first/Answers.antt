@@ -9,7 +9,8 @@ place_of-requires c =
     let leaves = c.args.self.now in
     let x = c.in-Some.field-0.now in
     let some = some_open leaves leaves.nodes.items leaves.values.items c.requires.leaves c.requires.leaf in
-    let found = open_number leaves leaves.nodes.items leaves.values.items c.requires.leaves x (top_inside x (heap_items leaves.heap) some c.in-Some.ensures.lookup) in
+    let found = open_number leaves leaves.nodes.items leaves.values.items c.requires.leaves x
+    (top_inside x (heap_items leaves.heap) some c.in-Some.ensures.lookup) in
     subst (λ (xs : List ℕ). (i : ℕ) × ((i < length xs) × (get_or xs i 0 ≡ x.0.number))) (sym c.as_slice.ensures.value) found
 
 pub unreachable-requires : goal.unreachable-requires

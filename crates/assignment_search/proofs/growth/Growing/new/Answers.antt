@@ -14,8 +14,16 @@ pub returns-clause-leaves : goal.returns-clause-leaves
 returns-clause-leaves c =
     let ms : List ℤ = c.args.root.multipliers in
     let z : ℤ = c.args.root.value in
-    let tree : Growing = record { budget = c.args.budget; nodes = c.push-4.new.self; values = c.push-3.new.self; numbers = c.push-2.new.self; heap = c.push.new.self } in
-    subst (λ (ns : List Node). AreOpen tree ns c.push-3.new.self.items) (sym (c.in_ok-push-4.ensures.items ∙ ap (λ (xs : List Node). xs ++ Leaf ms ∷ []) c.new-nodes.ensures.items))
+    let tree : Growing = record {
+      budget = c.args.budget;
+      nodes = c.push-4.new.self;
+      values = c.push-3.new.self;
+      numbers = c.push-2.new.self;
+      heap =
+          c.push.new.self;
+    } in
+    subst (λ (ns : List Node). AreOpen tree ns c.push-3.new.self.items)
+    (sym (c.in_ok-push-4.ensures.items ∙ ap (λ (xs : List Node). xs ++ Leaf ms ∷ []) c.new-nodes.ensures.items))
     (subst (λ (zs : List ℤ). AreOpen tree (Leaf ms ∷ []) zs) (sym (returns-clause-values c))
     (open_start tree ms z
     (c.in_ok-push-2.ensures.items ∙ ap (λ (xs : List ℕ). xs ++ 0 ∷ []) c.new-numbers.ensures.items)

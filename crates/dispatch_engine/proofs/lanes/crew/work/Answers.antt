@@ -12,5 +12,6 @@ returns-clause-worked g c =
       own = c.run_lane-ran.ensures.pass.0;
       ran = λ done.
           lane-run c.args.solver.now.settings.now c.args.solver.now.network.now (lane_at c.args.round.now new.lane) c.args.pass new c.requires.fresh.fresh
-          (subst (λ cs. HasRun c.args.solver.now.settings.now c.args.solver.now.network.now (IsLaneRun cs) c.args.pass new) commands (when-ok c.run_lane-ran.result _ (sym c.is_ok-done.ensures.value ∙ done) c.run_lane-ran.ensures.run));
+          (subst (λ cs. HasRun c.args.solver.now.settings.now c.args.solver.now.network.now (IsLaneRun cs) c.args.pass new) commands
+          (when-ok c.run_lane-ran.result _ (sym c.is_ok-done.ensures.value ∙ done) c.run_lane-ran.ensures.run));
     }

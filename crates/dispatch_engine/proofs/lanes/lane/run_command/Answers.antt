@@ -9,7 +9,8 @@ returns-in_default-clause-run g c =
     on_ok_weaker c.take.result
     (λ taken.
     let called = subst (λ command. HasTaken c.args.book.now.start.nodes c.args.pass.now command c.take.new.pass) c.copied.ensures taken in
-    runs-plain c.args.solver.now.settings.now c.args.solver.now.network.now c.args.book.now.start.nodes c.args.pass.now c.take.new.pass c.args.command.now called.receipt plain called.called)
+    runs-plain c.args.solver.now.settings.now c.args.solver.now.network.now c.args.book.now.start.nodes c.args.pass.now c.take.new.pass c.args.command.now
+    called.receipt plain called.called)
     c.take.ensures.taken
 
 pub returns-in_default-clause-begun : goal.returns-in_default-clause-begun

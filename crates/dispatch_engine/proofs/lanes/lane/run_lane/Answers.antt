@@ -25,7 +25,9 @@ loop-command-preserved g c =
       own = c.run_command.ensures.pass.0;
       lane = c.run_command.ensures.pass.1 ∙ c.loop-command.invariant.lane;
       ran = subst (λ cs. HasRun settings roads (IsLaneRun cs) c.args.pass.now c.run_command.new.pass) (take_next commands i command within c.command-item.is)
-          (runs-more settings roads (IsLaneRun (take i commands)) (IsLaneRun (command ∷ [])) (IsLaneRun (take i commands ++ command ∷ [])) (run-append None (take i commands) (command ∷ [])) c.args.pass.now c.loop-command.pass c.run_command.new.pass c.loop-command.invariant.ran c.in_ok-run_command.ensures.run);
+          (runs-more settings roads (IsLaneRun (take i commands)) (IsLaneRun (command ∷ [])) (IsLaneRun (take i commands ++ command ∷ []))
+          (run-append None (take i commands) (command ∷ [])) c.args.pass.now c.loop-command.pass c.run_command.new.pass c.loop-command.invariant.ran
+          c.in_ok-run_command.ensures.run);
     }
 
 pub returns-in_err-run_command-clause-begun : goal.returns-in_err-run_command-clause-begun
@@ -41,12 +43,14 @@ returns-in_err-run_command-clause-begun g c =
     ap (λ cs. cs ++ rest) (take_next commands i command within c.command-item.is) ∙ take-append-drop (i + 1) commands in
     on-err c.from_residual.result _
     (subst (λ cs. HasRun settings roads (IsLaneBeginning cs) c.args.pass.now c.run_command.new.pass) whole
-    (begun-after settings roads c.args.pass.now c.loop-command.pass c.run_command.new.pass (take i commands) (command ∷ []) rest c.loop-command.invariant.ran c.in_err-run_command.ensures.begun))
+    (begun-after settings roads c.args.pass.now c.loop-command.pass c.run_command.new.pass (take i commands) (command ∷ []) rest c.loop-command.invariant.ran
+    c.in_err-run_command.ensures.begun))
 
 pub returns-clause-pass : goal.returns-clause-pass
 returns-clause-pass g c = (c.loop-command.invariant.own, c.loop-command.invariant.lane)
 
 pub returns-clause-run : goal.returns-clause-run
 returns-clause-run g c =
-    subst (λ cs. HasRun c.args.solver.now.settings.now c.args.solver.now.network.now (IsLaneRun cs) c.args.pass.now c.loop-command.pass) (take_all c.loop-command.command-index c.args.commands.now (omega arith))
+    subst (λ cs. HasRun c.args.solver.now.settings.now c.args.solver.now.network.now (IsLaneRun cs) c.args.pass.now c.loop-command.pass)
+    (take_all c.loop-command.command-index c.args.commands.now (omega arith))
     c.loop-command.invariant.ran

@@ -13,9 +13,11 @@ returns-in-Ok g c =
     let some : 0 < length passes = omega (arith, len, one) in
     let rest = λ (lane : ℕ) (from : length passes ≤ lane). c.requires.lanes.rest lane (omega (arith, from, len)) in
     record {
-      run = round-run settings roads c.args.round.now start c.in-Ok.book passes c.in-Ok.ensures.calls c.requires.ready c.requires.lanes.kept some rest c.in_ok-passes.ensures.run
+      run = round-run settings roads c.args.round.now start c.in-Ok.book passes c.in-Ok.ensures.calls c.requires.ready c.requires.lanes.kept some rest
+          c.in_ok-passes.ensures.run
           c.requires.empty c.requires.kept c.in-Ok.ensures.kept;
       same = finished-same start c.in-Ok.book passes c.in-Ok.ensures.calls;
       kept = c.in-Ok.ensures.kept;
-      ready = round-ready settings roads c.args.round.now start c.in-Ok.book passes c.in-Ok.ensures.calls c.requires.ready c.requires.lanes.kept some rest c.in_ok-passes.ensures.run;
+      ready = round-ready settings roads c.args.round.now start c.in-Ok.book passes c.in-Ok.ensures.calls c.requires.ready c.requires.lanes.kept some rest
+          c.in_ok-passes.ensures.run;
     }

@@ -13,6 +13,9 @@ loop-number-preserved c =
     let request = request_read requests h c.index-requests-number.result inside c.index-requests-number.is in
     let rider = c.index-plain-number.is ∙ get_or_default plain h c.index-plain-number.result no_rider (omega arith) in
     let new : c.rider_as_promised.result ≡ kept_rider wait (request_at requests h) (slice_index_or plain h no_rider) =
-    c.rider_as_promised.ensures ∙ ap (λ (x : Rider). kept_rider wait x c.index-plain-number.result) request ∙ ap (λ (y : SettledRider). kept_rider wait (request_at requests h) y) rider in
-    subst (λ (y : SettledRider). AreKept wait requests plain (Contains (take (i + 1) held)) c.args.riders.now.items (set c.loop-number.riders.items h y)) (sym new)
-    (kept_more wait requests plain i h held c.args.riders.now.items c.loop-number.riders.items c.loop-number-test.true refl (omega arith) c.loop-number.invariant)
+    c.rider_as_promised.ensures ∙ ap (λ (x : Rider). kept_rider wait x c.index-plain-number.result) request ∙
+    ap (λ (y : SettledRider). kept_rider wait (request_at requests h) y) rider in
+    subst (λ (y : SettledRider). AreKept wait requests plain (Contains (take (i + 1) held)) c.args.riders.now.items (set c.loop-number.riders.items h y))
+    (sym new)
+    (kept_more wait requests plain i h held c.args.riders.now.items c.loop-number.riders.items c.loop-number-test.true refl (omega arith)
+    c.loop-number.invariant)

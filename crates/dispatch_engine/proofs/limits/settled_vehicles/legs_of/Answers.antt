@@ -15,7 +15,8 @@ loop-passenger-preserved c =
     let settings = c.args.settings.now in let points = c.args.points.now in let tau = travel_time c.args.times.now in
     let legs = c.loop-passenger.legs.items in let i = c.loop-passenger.passenger-index in let ps = c.args.passengers.now in
     let p = c.passenger-item.result in let leg = c.leg_of.result in
-    let more : take (i + 1) ps ≡ take i ps ++ p ∷ [] = take_more ps i p c.loop-passenger-test.true ∙ ap (λ (x : Passenger). take i ps ++ x ∷ []) (sym c.passenger-item.is) in
+    let more : take (i + 1) ps ≡ take i ps ++ p ∷ [] = take_more ps i p c.loop-passenger-test.true ∙
+    ap (λ (x : Passenger). take i ps ++ x ∷ []) (sym c.passenger-item.is) in
     rw c.push.ensures.items (record {
       count = length_push legs leg ∙ ap (λ (n : ℕ). n + 1) c.loop-passenger.invariant.count;
       each = pairs_more (λ (x : Passenger) (y : Leg). IsLegOf settings points tau x.origin x.destination x.time x.party y) no_leg i ps legs p leg
@@ -32,5 +33,6 @@ loop-passenger-preserved c =
 pub returns-clause-legs : goal.returns-clause-legs
 returns-clause-legs c =
     let settings = c.args.settings.now in let points = c.args.points.now in let tau = travel_time c.args.times.now in
-    pairs_all (λ (x : Passenger) (y : Leg). IsLegOf settings points tau x.origin x.destination x.time x.party y) no_leg c.loop-passenger.passenger-index c.args.passengers.now c.loop-passenger.legs.items
+    pairs_all (λ (x : Passenger) (y : Leg). IsLegOf settings points tau x.origin x.destination x.time x.party y) no_leg c.loop-passenger.passenger-index
+    c.args.passengers.now c.loop-passenger.legs.items
     (omega arith) c.loop-passenger.invariant.each

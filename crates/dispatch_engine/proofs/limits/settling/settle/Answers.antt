@@ -6,7 +6,8 @@ use Rattle.dispatch_engine.proofs.limits.settling.settle.Goals as goal
 
 pub plain_riders-requires-clause-places : goal.plain_riders-requires-clause-places
 plain_riders-requires-clause-places c =
-    rw c.as_slice-requests.ensures (rider_places _ c.args.points.now (subst (λ (b : Batch). ArePoints b c.args.points.now) (sym c.snapshot.view_is) c.requires.points))
+    rw c.as_slice-requests.ensures (rider_places _ c.args.points.now (subst (λ (b : Batch). ArePoints b c.args.points.now) (sym c.snapshot.view_is)
+    c.requires.points))
 
 pub settled_vehicles-requires-clause-places : goal.settled_vehicles-requires-clause-places
 settled_vehicles-requires-clause-places c =
@@ -36,6 +37,7 @@ returns c =
     let right = settled_right settings points tau batch plain vehicles riders pl av ak in
     let sound = settled_sound settings points tau batch plain vehicles riders pl av ak c.snapshot.invariant c.get.ensures.within in
     rw (c.of.ensures, c.of-2.ensures, c.most_seats.ensures, c.as_slice-2.ensures, c.from.ensures, c.get.ensures.value) (record {
-      settled = subst (λ (b : Batch). IsSettled settings points tau b (assembled settings points tau batch plain vehicles riders pl av ak)) c.snapshot.view_is right;
+      settled = subst (λ (b : Batch). IsSettled settings points tau b (assembled settings points tau batch plain vehicles riders pl av ak)) c.snapshot.view_is
+          right;
       sound = subst (λ (n : ℕ). IsSound settings.trip n tau (assembled settings points tau batch plain vehicles riders pl av ak)) (sym c.requires.table) sound;
     })

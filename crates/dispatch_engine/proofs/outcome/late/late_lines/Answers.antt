@@ -11,7 +11,8 @@ loop-vehicle-preserved-then-not-vehicles-vehicle c =
     let within = subst (λ (list : List SettledVehicle). v < length list) c.as_slice-vehicles.ensures c.loop-vehicle-test.true in
     let here = ap (λ (one : SettledVehicle). one.late) (vehicle_read settled c.as_slice-vehicles.result.now v _ c.as_slice-vehicles.ensures within) in
     let in_time : (vehicle_at settled v).late ≡ false = sym here ∙ c.if-not-vehicles-vehicle.true in
-    subst (λ (list : List ℕ). AllZip (IsLate c.args.instance.now.points.now (travel_time c.args.instance.now.times.now) settled) list c.loop-vehicle.lines.items)
+    subst (λ (list : List ℕ). AllZip (IsLate c.args.instance.now.points.now (travel_time c.args.instance.now.times.now) settled) list
+    c.loop-vehicle.lines.items)
     (sym (filter_range_skips (λ n. (vehicle_at settled n).late) v in_time)) c.loop-vehicle.invariant
 
 pub loop-vehicle-preserved : goal.loop-vehicle-preserved
@@ -24,4 +25,5 @@ loop-vehicle-preserved c =
     rw c.in_ok-push.ensures.items
     (subst (λ (list : List ℕ). AllZip R list (c.loop-vehicle.lines.items ++ c.in_ok-line.line ∷ []))
     (sym (filter_range_takes (λ n. (vehicle_at settled n).late) v late))
-    (all_zip_push R (filter (λ n. (vehicle_at settled n).late) (range_with_len 0 v)) c.loop-vehicle.lines.items v c.in_ok-line.line c.loop-vehicle.invariant c.in_ok-line.ensures))
+    (all_zip_push R (filter (λ n. (vehicle_at settled n).late) (range_with_len 0 v)) c.loop-vehicle.lines.items v c.in_ok-line.line c.loop-vehicle.invariant
+    c.in_ok-line.ensures))

@@ -12,11 +12,13 @@ loop-rider-preserved c =
       | then-not-index+in_ok-push w ↦
           rw (w.left-is, w.in_ok-push.ensures.items)
           (ap (λ v. v ++ c.loop-rider.rider ∷ []) c.loop-rider.invariant
-          ∙ sym (left_takes c.args.graph.now c.args.chosen.now c.in_ok-marks.marks.items c.in_ok-marks.ensures c.loop-rider.rider c.index.result.now low c.index.ensures w.if-not-index.true))
+          ∙ sym (left_takes c.args.graph.now c.args.chosen.now c.in_ok-marks.marks.items c.in_ok-marks.ensures c.loop-rider.rider c.index.result.now low
+          c.index.ensures w.if-not-index.true))
       | else-not-index w ↦
           rw w.left-is
           (c.loop-rider.invariant
-          ∙ sym (left_skips c.args.graph.now c.args.chosen.now c.in_ok-marks.marks.items c.in_ok-marks.ensures c.loop-rider.rider c.index.result.now low c.index.ensures w.if-not-index.false))
+          ∙ sym (left_skips c.args.graph.now c.args.chosen.now c.in_ok-marks.marks.items c.in_ok-marks.ensures c.loop-rider.rider c.index.result.now low
+          c.index.ensures w.if-not-index.false))
     ]
 
 pub returns-clause-within : goal.returns-clause-within

@@ -11,7 +11,8 @@ returns-in-Some c =
     let old = c.args.marks.now in
     let choice : choice_at c.args.chosen.now v ≡ Some k = c.in-Some.is in
     let own : IsRowOf g v k = subst (λ (o : Option ℕ). MatchOption o (HasNoRow g v) (IsRowOf g v)) choice (c.requires.plan.own v c.requires.vehicle) in
-    let read : c.index-rows-row.result ≡ row_at g k = row_read g c.rows.result.now k c.index-rows-row.result c.rows.ensures.value own.within c.index-rows-row.is in
+    let read : c.index-rows-row.result ≡ row_at g k = row_read g c.rows.result.now k c.index-rows-row.result c.rows.ensures.value own.within
+    c.index-rows-row.is in
     let riders : c.as_slice.result.now ≡ riders_at g k = c.as_slice.ensures.value ∙ ap (λ (r : TripRow). r.riders.items) (sym c.index-rows-row.is ∙ read) in
     served_more g c.args.chosen.now v old c.mark_riders.new.marks c.requires.marked c.mark_riders.ensures.len
     (λ r l. c.mark_riders.ensures.marked r l

@@ -13,6 +13,7 @@ loop-edge-preserved c =
     let settled = c.args.settled.now in let i = c.loop-edge.edge-index in let edge = get_or c.args.edges.now i no_edge in
     let told : RvEdge → ℕ × ℕ = λ edge. ((vehicle_at settled edge.vehicle).id, rider_id settled edge.rider) in
     let read = c.index-as_slice-edge in
-    let vehicle = vehicle_read settled c.as_slice.result.now edge.vehicle read.result c.as_slice.ensures (c.requires.vehicles i no_edge c.loop-edge-test.true) in
+    let vehicle = vehicle_read settled c.as_slice.result.now edge.vehicle read.result c.as_slice.ensures
+    (c.requires.vehicles i no_edge c.loop-edge-test.true) in
     map_pushed told c.args.edges.now i no_edge (told edge) c.loop-edge.lines.items c.push.new.self.items c.loop-edge-test.true c.loop-edge.invariant
     (rw (← ap (λ (one : SettledVehicle). one.id) vehicle, ← c.id_of.ensures) c.in_ok-push.ensures.items) refl

@@ -25,4 +25,5 @@ loop-vehicle-preserved g c =
     rw c.in_ok-push.ensures.items
     (subst (λ (list : List ℕ). AllZip R list (c.loop-vehicle.trips.items ++ c.in_ok-trip.trip ∷ []))
     (sym (filter_range_takes (λ n. not (vehicle_at settled n).late) v (ap not in_time)))
-    (all_zip_push R (filter (λ n. not (vehicle_at settled n).late) (range_with_len 0 v)) c.loop-vehicle.trips.items v c.in_ok-trip.trip c.loop-vehicle.invariant c.in_ok-trip.ensures))
+    (all_zip_push R (filter (λ n. not (vehicle_at settled n).late) (range_with_len 0 v)) c.loop-vehicle.trips.items v c.in_ok-trip.trip c.loop-vehicle.invariant
+    c.in_ok-trip.ensures))

@@ -7,7 +7,8 @@ use Rattle.dispatch_engine.proofs.outcome.trips.trip_of.Goals as goal
 pub unreachable-requires-in_default-2 : goal.unreachable-requires-in_default-2
 unreachable-requires-in_default-2 g c =
     let instance = c.args.graphs.now.instance.now in let settings = instance.settings.now in
-    let tau = travel_time instance.times.now in let settled = instance.settled.now in let graph = c.args.graphs.now.graph.now in let chosen = c.args.chosen.now in
+    let tau = travel_time instance.times.now in let settled = instance.settled.now in let graph = c.args.graphs.now.graph.now in let chosen =
+    c.args.chosen.now in
     let v = c.args.vehicle in let number = c.in-Some.number in
     let long = chosen_long settings tau settled graph chosen c.requires.exact.exact c.requires.lawful v c.requires.vehicle in
     let choice = sym (choice_read chosen v _ long) ∙ c.in-Some.is in
@@ -21,7 +22,8 @@ unreachable-requires-in_default-2 g c =
 pub returns : goal.returns
 returns g c =
     let instance = c.args.graphs.now.instance.now in let settings = instance.settings.now in
-    let tau = travel_time instance.times.now in let settled = instance.settled.now in let graph = c.args.graphs.now.graph.now in let chosen = c.args.chosen.now in
+    let tau = travel_time instance.times.now in let settled = instance.settled.now in let graph = c.args.graphs.now.graph.now in let chosen =
+    c.args.chosen.now in
     let v = c.args.vehicle in let number = c.in-Some.number in
     let long = chosen_long settings tau settled graph chosen c.requires.exact.exact c.requires.lawful v c.requires.vehicle in
     let choice = sym (choice_read chosen v _ long) ∙ c.in-Some.is in

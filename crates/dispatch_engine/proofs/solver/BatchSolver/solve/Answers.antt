@@ -28,9 +28,11 @@ returns g c =
     let roads = c.args.self.now.network.now in
     let settings = c.args.self.now.settings.now in
     let times = c.in_ok-times.times in
-    let table = subst (λ (of : Roads). AreTravelTimes of.arcs (map (index_in of.nodes) c.nodes.result.now) times) c.args.self.now.same_roads c.in_ok-times.ensures in
+    let table = subst (λ (of : Roads). AreTravelTimes of.arcs (map (index_in of.nodes) c.nodes.result.now) times) c.args.self.now.same_roads
+    c.in_ok-times.ensures in
     IfOk-weaker c.outcome_of.result
-    (λ outcome. (outcome.expired ≡ c.args.snapshot.now.expired) × AnswersWith settings c.in_ok-points.points (travel_time times) c.in_ok-settled.settled (IsGoodPlan settings) outcome.answer)
+    (λ outcome. (outcome.expired ≡ c.args.snapshot.now.expired) × AnswersWith settings c.in_ok-points.points (travel_time times) c.in_ok-settled.settled
+    (IsGoodPlan settings) outcome.answer)
     (IsGoodOutcome settings roads c.args.snapshot.now)
     (λ outcome told. record {
       points = c.in_ok-points.points;

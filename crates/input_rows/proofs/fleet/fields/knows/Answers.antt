@@ -5,4 +5,5 @@ use Rattle.input_rows.proofs.fleet.fields.knows.Goals as goal
 
 pub returns : goal.returns
 returns c =
-    same_from_decides c.has_node.result (has_node c.args.network.now.nodes c.args.node) c.has_node.ensures (has_node-Decides c.args.network.now.nodes c.args.node)
+    same_from_decides c.has_node.result (has_node c.args.network.now.nodes c.args.node) c.has_node.ensures
+    (has_node-Decides c.args.network.now.nodes c.args.node)

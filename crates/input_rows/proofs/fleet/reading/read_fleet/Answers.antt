@@ -5,7 +5,15 @@ use Rattle.std.proofs.lemmas.Result.{err_from_is_err_and}
 use Rattle.pool_io.specs.Table.{record_at}
 use Rattle.input_rows.proofs.fleet.FleetPlaceLemmas.{All-insert, IsFleet-insert}
 use Rattle.input_rows.proofs.fleet.FleetRowLemmas.{IsNewVehicle-vehicle_in}
-use Rattle.input_rows.proofs.fleet.FleetLemmas.{known_more, same_members-insert, vehicle_of_row-new, vehicle_of_row-duplicate, vehicle_of_row-fault, vehicles_of-refused, vehicles_of-all}
+use Rattle.input_rows.proofs.fleet.FleetLemmas.{
+  known_more,
+  same_members-insert,
+  vehicle_of_row-new,
+  vehicle_of_row-duplicate,
+  vehicle_of_row-fault,
+  vehicles_of-refused,
+  vehicles_of-all,
+}
 use Rattle.input_rows.proofs.fleet.reading.read_fleet.Goals as goal
 
 pub returns-in_err-vehicle-clause-refused : goal.returns-in_err-vehicle-clause-refused
@@ -54,8 +62,10 @@ loop-row-preserved c =
     let new = IsNewVehicle-vehicle_in nodes (row + 1) (record_at c.args.rows.now row) vehicle is in
     record {
       vehicles = kept.vehicles ++ vehicle ∷ [];
-      read = all_or_first-ok (vehicle_of_row nodes records) row kept.vehicles vehicle kept.read (vehicle_of_row-new nodes records row old vehicle is kept.known at.new);
-      members = λ v. subst (λ vs. Contains vs v ↔ Contains (kept.vehicles ++ vehicle ∷ []) v) (sym items) (same_members-insert kept.vehicles old place vehicle kept.members v);
+      read = all_or_first-ok (vehicle_of_row nodes records) row kept.vehicles vehicle kept.read
+          (vehicle_of_row-new nodes records row old vehicle is kept.known at.new);
+      members = λ v. subst (λ vs. Contains vs v ↔ Contains (kept.vehicles ++ vehicle ∷ []) v) (sym items)
+          (same_members-insert kept.vehicles old place vehicle kept.members v);
       known = λ id. ap (λ vs. has_vehicle vs id) items ∙ known_more records row old place vehicle within new.id kept.known id;
       fleet = subst IsFleet (sym items) (IsFleet-insert old vehicle place kept.fleet (omega (arith, kept.count)) at new.seats new.empty);
       count = ap length items ∙ length-insert old place vehicle at.inside ∙ ap (λ n. n + 1) kept.count;

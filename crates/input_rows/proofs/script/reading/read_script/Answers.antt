@@ -5,7 +5,14 @@ use Rattle.input_rows.proofs.script.ScriptLemmas.{Built, Built-none, Built-more,
 use Rattle.input_rows.proofs.script.reading.read_script.Goals as goal
 
 pub loop-row-init : goal.loop-row-init
-loop-row-init c = record { script_rows = []; read = refl; built = subst (Built [] 0) (sym c.new-rounds.ensures.items) Built-none; before = sym (round_before-first c.args.rows.now.records); kept = subst (All IsRound) (sym c.new-rounds.ensures.items) (All-nil IsRound) }
+loop-row-init c = record {
+  script_rows = [];
+  read = refl;
+  built = subst (Built [] 0) (sym c.new-rounds.ensures.items) Built-none;
+  before =
+      sym (round_before-first c.args.rows.now.records);
+  kept = subst (All IsRound) (sym c.new-rounds.ensures.items) (All-nil IsRound);
+}
 
 pub returns-in_err-script_row-clause-refused : goal.returns-in_err-script_row-clause-refused
 returns-in_err-script_row-clause-refused c =
@@ -22,7 +29,8 @@ returns-in_err-script_row-clause-refused c =
 
 pub add_script_row-requires : goal.add_script_row-requires
 add_script_row-requires c =
-    let read = IsRead-script_row_in c.args.version (c.loop-row.row + 1) c.loop-row.last (record_at c.args.rows.now c.loop-row.row) c.in_ok-script_row.script_row (sym c.in_ok-script_row.ensures) in
+    let read = IsRead-script_row_in c.args.version (c.loop-row.row + 1) c.loop-row.last (record_at c.args.rows.now c.loop-row.row) c.in_ok-script_row.script_row
+    (sym c.in_ok-script_row.ensures) in
     record { round = omega arith; number = read.behind.number; lane = read.behind.lane; stands = read.behind.stands }
 
 pub loop-row-preserved : goal.loop-row-preserved
@@ -37,10 +45,13 @@ loop-row-preserved c =
     let next : suc row ≡ row + 1 = omega arith in
     record {
       script_rows = kept.script_rows ++ script_row ∷ [];
-      read = all_or_first-ok (script_row_at version records) row kept.script_rows script_row kept.read (script_row_at-read version records row c.loop-row.last (Ok script_row) kept.before is);
-      built = subst (Built (kept.script_rows ++ script_row ∷ []) script_row.round) (sym c.in_ok-add_script_row.ensures.added) (Built-more kept.script_rows c.loop-row.last c.loop-row.rounds.items script_row kept.built read.behind);
+      read = all_or_first-ok (script_row_at version records) row kept.script_rows script_row kept.read
+          (script_row_at-read version records row c.loop-row.last (Ok script_row) kept.before is);
+      built = subst (Built (kept.script_rows ++ script_row ∷ []) script_row.round) (sym c.in_ok-add_script_row.ensures.added)
+          (Built-more kept.script_rows c.loop-row.last c.loop-row.rounds.items script_row kept.built read.behind);
       before = read.named ∙ ap (round_before records) next;
-      kept = subst (All IsRound) (sym c.in_ok-add_script_row.ensures.added) (with_script_row-kept c.loop-row.rounds.items script_row c.loop-row.last kept.kept read.behind);
+      kept = subst (All IsRound) (sym c.in_ok-add_script_row.ensures.added) (with_script_row-kept c.loop-row.rounds.items script_row c.loop-row.last kept.kept
+          read.behind);
     }
 
 pub returns-clause-accepted : goal.returns-clause-accepted

@@ -21,7 +21,8 @@ invariant_of-self g c =
     let applied : IsApplied old.book c.args.lane c.args.command c.in-Ok-apply.reply c.apply.new.self = c.in-Ok-apply.ensures.applied in
     let whole : old.fault ≡ None = none_of old.fault (sym c.is_some.ensures ∙ c.if-is_some.false) in
     let wrote = c.write_last-self-inside.ensures.wrote old.book.entries e (c.entries.ensures.entries ∙ applied.entries) in
-    let at : WroteLast c.write_last-self-inside.result (entry_text old.proof (next_position old.book.first old.book.entries) e) c.deref.result.now c.in-Ok-apply.reply old.now now =
+    let at : WroteLast c.write_last-self-inside.result (entry_text old.proof (next_position old.book.first old.book.entries) e) c.deref.result.now
+    c.in-Ok-apply.reply old.now now =
     rw c.next_position-position.ensures at wrote in
     desk-entered old c.args.lane c.args.command c.in-Ok-apply.reply c.apply.new.self now c.self.invariant whole c.entries.ensures.kept applied
     c.deref.result.now (c.deref.ensures.value ∙ c.in-Ok.ensures.notices) c.write_last-self-inside.ensures.never_falls c.write_last-self-inside.result at
@@ -34,7 +35,8 @@ returns-in-Ok-apply-clause-entered g c =
     let was : OutputsView = outputs_seen g.K.Sink.written g.K.Sink.faults g.N.Notifier.told g.N.Notifier.faults g.N.Notifier.steady c.self.inside.outputs.sink c.self.inside.outputs.notifiers.items in
     subst (λ (old : DeskView). HasEntered old c.args.lane c.args.command (record { reply = c.in-Ok-apply.reply; snapshot = c.in-Ok.snapshot }) new) c.self.view_is
     (desk-replied (record { book = c.self.inside.book; proof = c.self.inside.proof; opened = opened; now = was; fault = c.self.inside.fault })
-    new c.args.lane c.args.command c.in-Ok-apply.reply c.in-Ok.snapshot c.self.invariant.book c.entries.ensures.kept c.in-Ok-apply.ensures.applied c.in-Ok.ensures.sealed refl refl)
+    new c.args.lane c.args.command c.in-Ok-apply.reply c.in-Ok.snapshot c.self.invariant.book c.entries.ensures.kept c.in-Ok-apply.ensures.applied
+    c.in-Ok.ensures.sealed refl refl)
 
 pub returns-in-Ok-apply-clause-kept : goal.returns-in-Ok-apply-clause-kept
 returns-in-Ok-apply-clause-kept g c = invariant_of-self g c
@@ -54,4 +56,11 @@ returns-in-Ok-clause-refused g c =
       now = outputs_seen g.K.Sink.written g.K.Sink.faults g.N.Notifier.told g.N.Notifier.faults g.N.Notifier.steady c.self.inside.outputs.sink c.self.inside.outputs.notifiers.items;
       fault = c.self.inside.fault;
     } in
-    subst (λ (old : DeskView). IsSameDesk old new) c.self.view_is (record { book = c.in-Err-apply.ensures.unchanged; proof = refl; opened = refl; now = refl; fault = refl })
+    subst (λ (old : DeskView). IsSameDesk old new) c.self.view_is (record {
+      book = c.in-Err-apply.ensures.unchanged;
+      proof = refl;
+      opened = refl;
+      now =
+          refl;
+      fault = refl;
+    })

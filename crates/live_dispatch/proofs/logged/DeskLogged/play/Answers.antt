@@ -9,5 +9,6 @@ returns-clause-short g c = log-short c.enter.result c.enter.new.self c.enter.ens
 pub returns-clause-entry : goal.returns-clause-entry
 returns-clause-entry g c =
     IfOk-weaker c.enter.result _ _
-    (λ reply entered. log-more c.args.self.now c.enter.new.self c.args.lane c.args.call.lane c.args.call.command reply (c.if-lane-pass_of.false ∙ c.pass_of.ensures) entered)
+    (λ reply entered. log-more c.args.self.now c.enter.new.self c.args.lane c.args.call.lane c.args.call.command reply
+    (c.if-lane-pass_of.false ∙ c.pass_of.ensures) entered)
     c.enter.ensures.entered

@@ -14,10 +14,15 @@ column_within : (c : After-self) → c.args.column < c.self.inside.columns
 column_within c = rw (← c.self.view_is) at c.requires.column
 
 place_within : (c : After-self) → c.args.row * c.self.inside.columns + c.args.column < length c.self.inside.ends.items
-place_within c = omega (arith, mul-add-lt c.args.row c.self.inside.columns c.args.column c.self.inside.count (row_within c) (column_within c), c.self.invariant.0)
+place_within c = omega (
+  arith,
+  mul-add-lt c.args.row c.self.inside.columns c.args.column c.self.inside.count (row_within c) (column_within c),
+  c.self.invariant.0,
+)
 
 at_place : (c : After-self) → FieldAt 0 c.self.inside.ends.items c.self.inside.bytes.items (c.args.row * c.self.inside.columns + c.args.column)
-at_place c = field_here 0 c.self.inside.ends.items c.self.inside.bytes.items (c.args.row * c.self.inside.columns + c.args.column) c.self.invariant.2 (place_within c)
+at_place c = field_here 0 c.self.inside.ends.items c.self.inside.bytes.items (c.args.row * c.self.inside.columns + c.args.column) c.self.invariant.2
+    (place_within c)
 
 pub overflow_mul-place : goal.overflow_mul-place
 overflow_mul-place c = omega (arith, place_within c, c.self.invariant.0, c.self.invariant.1)
@@ -65,5 +70,6 @@ returns c =
     let place = c.args.row * c.self.inside.columns + c.args.column in
     let start : c.start_of.result ≡ start_at 0 ends place = rw c.deref-2.ensures.value at c.start_of.ensures in
     let end : c.index.result.now ≡ slice_index ends place = get_or_read ends place c.index.result.now (place_within self) c.index.ensures 0 in
-    let same = cut_rows-field c.self.inside.count c.self.inside.columns (cut_fields 0 ends bytes) c.args.row c.args.column (row_within self) (column_within self) in
+    let same = cut_rows-field c.self.inside.count c.self.inside.columns (cut_fields 0 ends bytes) c.args.row c.args.column (row_within self)
+    (column_within self) in
     rw (start, end, c.deref.ensures.value, ← c.self.view_is) (sym (same ∙ (at_place self).field))

@@ -11,8 +11,10 @@ returns c =
     let s = c.args.self.now in
     let t = c.args.tree.now in
     let h = c.requires in
-    let fall : Falls t.vehicles.items c.args.by s.vehicle_price.items c.lower.new.prices = rw (c.deref_mut.ensures.value, c.deref.ensures.value) at c.lower.ensures in
-    let rise : Rises t.riders.items c.args.by s.rider_price.items c.raise.new.prices = rw (c.deref_mut-2.ensures.value, c.deref-2.ensures.value) at c.raise.ensures in
+    let fall : Falls t.vehicles.items c.args.by s.vehicle_price.items c.lower.new.prices =
+    rw (c.deref_mut.ensures.value, c.deref.ensures.value) at c.lower.ensures in
+    let rise : Rises t.riders.items c.args.by s.rider_price.items c.raise.new.prices = rw (c.deref_mut-2.ensures.value, c.deref-2.ensures.value) at
+    c.raise.ensures in
     let a = with_items_is s.vehicle_price c.lower.new.prices (omega (arith, fall.same_length, s.vehicle_price.ok.0)) in
     let b = with_items_is s.rider_price c.raise.new.prices (omega (arith, rise.same_length, s.rider_price.ok.0)) in
     record {

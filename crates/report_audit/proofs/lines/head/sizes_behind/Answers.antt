@@ -8,5 +8,6 @@ pub returns-then-ne : goal.returns-then-ne
 returns-then-ne c =
     let told = c.in-Some-read_sizes.ensures in
     let other : c.in-Some-read_sizes.told ≢ (c.args.nodes, c.args.arcs) = λ e. grind (arith, nat_tests, c.if-ne.ensures, ap (λ p. p.0) e, ap (λ p. p.1) e) in
-    head_fails c.in-Some.line.now c.in-Some.rest.now (HeadLine.sizes (c.args.nodes, c.args.arcs)) (HeadLine.fleet c.args.vehicles ∷ []) 3 c.in-Some.ensures (c.in-Some-read_sizes.told, told.0, told.1)
+    head_fails c.in-Some.line.now c.in-Some.rest.now (HeadLine.sizes (c.args.nodes, c.args.arcs)) (HeadLine.fleet c.args.vehicles ∷ []) 3 c.in-Some.ensures
+    (c.in-Some-read_sizes.told, told.0, told.1)
     (λ same. other (sizes_of_one c.in-Some-read_sizes.told (c.args.nodes, c.args.arcs) told.0 (omega arith, omega arith) (sym told.1 ∙ same)))

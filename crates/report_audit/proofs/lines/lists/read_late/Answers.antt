@@ -11,4 +11,5 @@ returns-in_default c late is e =
 pub returns-in_default-2 : goal.returns-in_default-2
 returns-in_default-2 c late is e =
     (rw c.in_default-2.is at c.in_ok-delay.ensures) (late.delay, late.stops) is.1
-    (same_begin (numbered_once (codes "late ") 1000000000 (omega arith)) c.in-Some.ensures late.vehicle (order_text (late.delay, late.stops)) is.0 (order_ends (late.delay, late.stops)) e).1
+    (same_begin (numbered_once (codes "late ") 1000000000 (omega arith)) c.in-Some.ensures late.vehicle (order_text (late.delay, late.stops)) is.0
+    (order_ends (late.delay, late.stops)) e).1

@@ -10,4 +10,5 @@ returns-in_default c row is e =
 pub returns-in_default-2 : goal.returns-in_default-2
 returns-in_default-2 c row is e =
     (rw c.in_default-2.is at c.in_ok-riders.ensures) row.riders is.2
-    (same_begin (pair_once (codes "row ") 1000000000 18446744073709551615 (omega arith) (omega arith)) c.in-Some.ensures (row.vehicle, row.cost) _ (is.0, omega (arith, is.1)) (many_end spaced_item row.riders) e).1
+    (same_begin (pair_once (codes "row ") 1000000000 18446744073709551615 (omega arith) (omega arith)) c.in-Some.ensures (row.vehicle, row.cost) _
+    (is.0, omega (arith, is.1)) (many_end spaced_item row.riders) e).1

@@ -11,4 +11,5 @@ returns-in_default c trip is e =
 pub returns-in_default-2 : goal.returns-in_default-2
 returns-in_default-2 c trip is e =
     (rw c.in_default-2.is at c.in_ok-stops.ensures) trip.stops is.2
-    (same_begin (pair_once (codes "trip ") 1000000000 18446744073709551615 (omega arith) (omega arith)) c.in-Some.ensures (trip.vehicle, trip.cost) _ (is.0, omega (arith, is.1)) (many_end stop_item trip.stops) e).1
+    (same_begin (pair_once (codes "trip ") 1000000000 18446744073709551615 (omega arith) (omega arith)) c.in-Some.ensures (trip.vehicle, trip.cost) _
+    (is.0, omega (arith, is.1)) (many_end stop_item trip.stops) e).1

@@ -7,7 +7,8 @@ pub returns-then-n-least : goal.returns-then-n-least
 returns-then-n-least t c = (
   λ on. absurd cc,
   λ told.
-      let first = told_first _ _ (omega arith) c.in-Some-numbered_first.ensures (subst (λ fs. IsToldBy fs c.args.text.now) (ap fields_of c.in-Some.ensures.cases.0) told) in
+      let first = told_first _ _ (omega arith) c.in-Some-numbered_first.ensures (subst (λ fs. IsToldBy fs c.args.text.now)
+      (ap fields_of c.in-Some.ensures.cases.0) told) in
       absurd (omega (arith, first.0)),
 )
 
@@ -18,5 +19,6 @@ returns t c = (
       (c.in-Some-numbered_first.n, c.in-Some-numbered_first.after.now, c.in-Some-numbered_first.ensures, omega arith, c.is_told_by.ensures.0 on),
   λ told.
       c.is_told_by.ensures.1
-      (told_first _ _ (omega arith) c.in-Some-numbered_first.ensures (subst (λ fs. IsToldBy fs c.args.text.now) (ap fields_of c.in-Some.ensures.cases.0) told)).1,
+      (told_first _ _ (omega arith) c.in-Some-numbered_first.ensures (subst (λ fs. IsToldBy fs c.args.text.now) (ap fields_of c.in-Some.ensures.cases.0)
+      told)).1,
 )

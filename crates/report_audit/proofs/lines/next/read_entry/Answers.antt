@@ -13,10 +13,12 @@ returns-in_err-lane c = rw c.from_residual-in_err-lane.ensures (λ lane is.
     c.in_err-lane.ensures lane x.2 (subst (λ t. BeginsWith spaced (λ n. n ≤ 255) t lane x.2) (same_position c.in_ok-after.ensures x.3) x.3.laned))
 
 pub returns-then-is_told_by_any : goal.returns-then-is_told_by_any
-returns-then-is_told_by_any c = cut_entry (record { placed = c.in_ok-after.ensures; laned = c.in_ok-lane.ensures; told = command_told (c.is_told_by_any.ensures.0 c.if-is_told_by_any.true) })
+returns-then-is_told_by_any c = cut_entry
+    (record { placed = c.in_ok-after.ensures; laned = c.in_ok-lane.ensures; told = command_told (c.is_told_by_any.ensures.0 c.if-is_told_by_any.true) })
 
 pub returns-else-is_told_by_any : goal.returns-else-is_told_by_any
 returns-else-is_told_by_any c lane is =
     let x = entry_cut is in
     let same = same_rest c.in_ok-lane.ensures (subst (λ t. BeginsWith spaced (λ n. n ≤ 255) t lane x.2) (same_position c.in_ok-after.ensures x.3) x.3.laned) in
-    not_so c.is_told_by_any.result (λ (t : IsTextOf told_text IsAnswered c.in_ok-lane.told.now). c.is_told_by_any.ensures.1 (told_command t)) c.if-is_told_by_any.false (subst (IsTextOf told_text IsAnswered) same.1 x.3.told)
+    not_so c.is_told_by_any.result (λ (t : IsTextOf told_text IsAnswered c.in_ok-lane.told.now). c.is_told_by_any.ensures.1 (told_command t))
+    c.if-is_told_by_any.false (subst (IsTextOf told_text IsAnswered) same.1 x.3.told)

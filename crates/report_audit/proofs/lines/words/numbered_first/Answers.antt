@@ -9,4 +9,5 @@ returns-in_err-after c = rw c.from_residual.ensures (behind_none_words decimal (
 
 pub returns : goal.returns
 unfolding numbered
-returns c = behind_read decimal (λ n. n ≤ c.args.most) c.args.words.now c.args.text.now c.in_ok-after.after.now c.number_first.result c.in_ok-after.ensures c.number_first.ensures
+returns c = behind_read decimal (λ n. n ≤ c.args.most) c.args.words.now c.args.text.now c.in_ok-after.after.now c.number_first.result c.in_ok-after.ensures
+    c.number_first.ensures

@@ -7,4 +7,5 @@ returns-in_err-first c = rw c.from_residual.ensures (both_none_first (λ n. n �
 
 pub returns-in_err-second : goal.returns-in_err-second
 returns-in_err-second c =
-    rw c.from_residual-in_err-second.ensures (both_none_second (λ n. n ≤ c.args.other) spaced_apart (numbered_once c.args.words.now c.args.most (omega arith)) c.in_ok-first.ensures c.in_err-second.ensures)
+    rw c.from_residual-in_err-second.ensures (both_none_second (λ n. n ≤ c.args.other) spaced_apart (numbered_once c.args.words.now c.args.most (omega arith))
+    c.in_ok-first.ensures c.in_err-second.ensures)

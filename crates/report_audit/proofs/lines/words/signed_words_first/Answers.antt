@@ -9,4 +9,5 @@ returns-in_err-after c = rw c.from_residual.ensures (behind_none_words signed_de
 
 pub returns : goal.returns
 unfolding signed
-returns c = behind_read signed_decimal IsWide c.args.words.now c.args.text.now c.in_ok-after.after.now c.signed_first.result c.in_ok-after.ensures c.signed_first.ensures
+returns c = behind_read signed_decimal IsWide c.args.words.now c.args.text.now c.in_ok-after.after.now c.signed_first.result c.in_ok-after.ensures
+    c.signed_first.ensures

@@ -8,15 +8,18 @@ use Rattle.report_audit.proofs.points.bound.shows_bound.Goals as goal
 pub returns-then-value-bound : goal.returns-then-value-bound
 returns-then-value-bound c = (
   λ is. absurd (let no : false ≡ true = is in cc),
-  λ has. absurd (c.if-value-bound.true (ap (of_z w128) (one_value c.args.graph.now c.args.tree.now c.in-Ok.value c.args.bound.now c.in-Ok.ensures.tree has.tree))),
+  λ has. absurd (c.if-value-bound.true (ap (of_z w128) (one_value c.args.graph.now c.args.tree.now c.in-Ok.value c.args.bound.now c.in-Ok.ensures.tree
+      has.tree))),
 )
 
 pub returns-in-Err : goal.returns-in-Err
 returns-in-Err c = by c.refused.result c.refused.ensures
   where
-    by : (r : Result Bool NoMemory) → IfOk r (λ told. (told ≡ false) × IsRefusal c.in-Err.fault) → IfOk r (λ told. IsTrue told ↔ ShowsBound c.args.graph.now c.args.budget c.args.bound.now c.args.tree.now)
+    by : (r : Result Bool NoMemory) → IfOk r (λ told. (told ≡ false) × IsRefusal c.in-Err.fault) →
+        IfOk r (λ told. IsTrue told ↔ ShowsBound c.args.graph.now c.args.budget c.args.bound.now c.args.tree.now)
     by (Err e) h = tt
     by (Ok told) h = (
       λ is. absurd (let no : true ≡ false = sym is ∙ h.0 in cc),
-      λ has. absurd (no_tree c.args.graph.now c.args.tree.now c.in-Err.fault h.1 c.in-Err.ensures.fault (whole_of_value c.args.graph.now c.args.tree.now c.args.bound.now has.tree)),
+      λ has. absurd (no_tree c.args.graph.now c.args.tree.now c.in-Err.fault h.1 c.in-Err.ensures.fault
+          (whole_of_value c.args.graph.now c.args.tree.now c.args.bound.now has.tree)),
     )

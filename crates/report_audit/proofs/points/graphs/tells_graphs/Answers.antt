@@ -14,19 +14,26 @@ trip_row_lines-requires-clause-riders c = rw c.rows.ensures.value (λ k d l. (c.
 
 pub trip_row_lines-requires-clause-few : goal.trip_row_lines-requires-clause-few
 trip_row_lines-requires-clause-few c = rw c.rows.ensures.value
-    (λ k d l. let size = (c.requires.exact.right k d l).served.size in let most = c.args.graphs.now.instance.now.settings.now.in_range.trip_range.1 in omega arith)
+    (λ k d l. let size = (c.requires.exact.right k d l).served.size in let most = c.args.graphs.now.instance.now.settings.now.in_range.trip_range.1 in omega
+    arith)
 
 pub returns-then-not-are_same_pairs : goal.returns-then-not-are_same_pairs
 returns-then-not-are_same_pairs c =
     let settled = c.args.graphs.now.instance.now.settled.now in rightly_no (λ holds.
     both_ways _ c.if-not-are_same_pairs.true (c.are_same_pairs.ensures.1
-    (c.deref-3.ensures.value ∙ c.in_ok-rr_lines.ensures ∙ ap (λ (pairs : List (ℕ × ℕ)). map (λ (pair : ℕ × ℕ). (rider_id settled pair.0, rider_id settled pair.1)) pairs) c.all.ensures
+    (c.deref-3.ensures.value ∙ c.in_ok-rr_lines.ensures ∙ ap (λ (pairs : List (ℕ × ℕ)). map
+    (λ (pair : ℕ × ℕ). (rider_id settled pair.0, rider_id settled pair.1)) pairs) c.all.ensures
     ∙ sym holds.2 ∙ sym c.as_slice-3.ensures)))
 
 pub returns : goal.returns
 returns c =
     let settled = c.args.graphs.now.instance.now.settled.now in
-    let line : TripRow → TripRowLine = λ row. record { vehicle = (vehicle_at settled row.vehicle).id; riders = record { items = map (rider_id settled) row.riders.items }; cost = row.cost } in
+    let line : TripRow → TripRowLine = λ row. record {
+      vehicle = (vehicle_at settled row.vehicle).id;
+      riders =
+          record { items = map (rider_id settled) row.riders.items };
+      cost = row.cost;
+    } in
     let told : c.deref-4.result.now ≡ map line c.args.graphs.now.graph.now.rows =
     c.deref-4.ensures.value ∙ c.in_ok-rows.ensures ∙ ap (λ (rows : List TripRow). map line rows) c.rows.ensures.value in
     let first : IsTrue c.are_same_riders.result = first_of (search rules, grind (arith, nat_tests)) in

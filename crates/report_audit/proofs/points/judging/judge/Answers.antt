@@ -1,5 +1,19 @@
 use Rattle.std.proofs.Common.{◌≡◌, ℕ, List, All, Contains, length, map, sym, ap, ◌∙◌, subst, arith}
-use Rattle.report_audit.proofs.Common.{IfOk-weaker, both_ways, length-map, Batch, IsVerdictOf, Meets, Fails, IsKept, point_count, travel_time, Roads, index_in, AreTravelTimes}
+use Rattle.report_audit.proofs.Common.{
+  IfOk-weaker,
+  both_ways,
+  length-map,
+  Batch,
+  IsVerdictOf,
+  Meets,
+  Fails,
+  IsKept,
+  point_count,
+  travel_time,
+  Roads,
+  index_in,
+  AreTravelTimes,
+}
 use Rattle.dispatch_engine.proofs.lemmas.outcome.PointLemmas.{points_known}
 use Rattle.report_audit.proofs.lemmas.points.IdLemmas.{own_ids}
 use Rattle.report_audit.proofs.lemmas.points.PosedLemmas.{meets_of, verdict_good}
@@ -29,7 +43,8 @@ returns-then-not-are_same_riders g c =
 
 pub judge_answer-requires-clause-ids : goal.judge_answer-requires-clause-ids
 judge_answer-requires-clause-ids g c =
-    λ κs lives. own_ids c.args.settings.now c.in_ok-points.points c.args.settings.now.trip (point_count c.in_ok-times.times) (travel_time c.in_ok-times.times) c.args.snapshot.now c.in_ok-settled.settled
+    λ κs lives. own_ids c.args.settings.now c.in_ok-points.points c.args.settings.now.trip (point_count c.in_ok-times.times) (travel_time c.in_ok-times.times)
+    c.args.snapshot.now c.in_ok-settled.settled
     (subst (λ (b : Batch). IsKept b) c.snapshot.view_is c.snapshot.invariant) c.in_ok-settled.ensures.settled c.in_ok-settled.ensures.sound
 
 pub invariant_of-instance : goal.invariant_of-instance
@@ -43,7 +58,8 @@ returns g c =
     let settings = c.args.settings.now in let roads = c.args.network.now in let batch = c.args.snapshot.now in let outcome = c.args.outcome.now in
     let points = c.in_ok-points.points in let times = c.in_ok-times.times in let settled = c.in_ok-settled.settled in
     let table : AreTravelTimes roads.arcs (map (index_in roads.nodes) points) times = rw (c.requires.ways, c.nodes.ensures.nodes) at c.in_ok-times.ensures in
-    let expired : outcome.expired ≡ batch.expired = sym c.as_slice.ensures ∙ c.are_same_riders.ensures.0 c.if-not-are_same_riders.false ∙ c.as_slice-2.ensures ∙ ap (λ (b : Batch). b.expired) c.snapshot.view_is in
+    let expired : outcome.expired ≡ batch.expired = sym c.as_slice.ensures ∙ c.are_same_riders.ensures.0 c.if-not-are_same_riders.false ∙ c.as_slice-2.ensures ∙
+    ap (λ (b : Batch). b.expired) c.snapshot.view_is in
     let meets = meets_of settings roads batch outcome points times settled c.in_ok-points.ensures.points table c.in_ok-settled.ensures.settled expired in
     record {
       points = IfOk-weaker c.judge_answer.result _ _ meets c.judge_answer.ensures;

@@ -35,7 +35,8 @@ judge_chosen-requires-clause-before c =
     let settings = c.args.graphs.now.instance.now.settings.now in let p = posed_by c.args.graphs.now in let planned = c.args.planned.now in
     let gives = rw (c.in-Some.is, c.as_slice-2.ensures) at c.in_ok-plan_of_trips.ensures in
     hold_more (λ q. Holds settings q planned p) point.Trips
-    (third settings p planned (c.in_ok-tells_graphs.ensures.0 c.if-not-branch.false) (rw c.as_slice.ensures at (c.in_ok-are_late.ensures.0 c.if-not-branch-2.false)))
+    (third settings p planned (c.in_ok-tells_graphs.ensures.0 c.if-not-branch.false) (rw c.as_slice.ensures at
+    (c.in_ok-are_late.ensures.0 c.if-not-branch-2.false)))
     (with_plan settings p planned c.in-Some.plan gives (λ chosen. Unit {0}) tt)
 
 pub left_riders-requires : goal.left_riders-requires

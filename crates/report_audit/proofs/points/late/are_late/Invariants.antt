@@ -7,4 +7,5 @@ use Rattle.report_audit.proofs.points.late.are_late.Given as goal
 abbrev pub invariant-loop-vehicle : goal.invariant-loop-vehicle
 invariant-loop-vehicle l =
     AreLate l.instance.points.now (travel_time l.instance.times.now) l.instance.settled.now l.late
-    ↔ AllZip (IsLate l.instance.points.now (travel_time l.instance.times.now) l.instance.settled.now) (passing (λ v. (vehicle_at l.instance.settled.now v).late) (length l.instance.settled.now.vehicles) l.vehicle) (drop l.place l.late)
+    ↔ AllZip (IsLate l.instance.points.now (travel_time l.instance.times.now) l.instance.settled.now)
+    (passing (λ v. (vehicle_at l.instance.settled.now v).late) (length l.instance.settled.now.vehicles) l.vehicle) (drop l.place l.late)

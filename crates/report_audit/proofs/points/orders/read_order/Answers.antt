@@ -19,7 +19,8 @@ returns-in_default c = λ points tau stops o is.
 pub loop-stop-preserved : goal.loop-stop-preserved
 loop-stop-preserved c =
     rw c.push.ensures.items
-    (read_next c.args.settled.now c.args.vehicle c.args.trip.now c.args.told.now c.loop-stop.stop-index c.stop-item.result c.loop-stop.order.items c.in-Some.next c.loop-stop-test.true c.loop-stop.invariant
+    (read_next c.args.settled.now c.args.vehicle c.args.trip.now c.args.told.now c.loop-stop.stop-index c.stop-item.result c.loop-stop.order.items
+    c.in-Some.next c.loop-stop-test.true c.loop-stop.invariant
     (λ nodes stop second known same. let found = c.read_stop.ensures nodes stop second known (c.stop-item.is ∙ same) in let some = c.in-Some.is in cc))
 
 pub returns : goal.returns

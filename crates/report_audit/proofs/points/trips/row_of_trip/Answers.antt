@@ -7,7 +7,10 @@ pub tells_row-requires-clause-row : goal.tells_row-requires-clause-row
 tells_row-requires-clause-row c = row_between _ _ _ _ _ c.first_row-row.ensures c.first_row-row-end.ensures c.loop-row.auto.row c.loop-row-test.true
 
 pub returns-then-tells_row : goal.returns-then-tells_row
-returns-then-tells_row c = (row_between _ _ _ _ _ c.first_row-row.ensures c.first_row-row-end.ensures c.loop-row.auto.row c.loop-row-test.true, c.tells_row.ensures.0 c.if-tells_row.true)
+returns-then-tells_row c = (
+  row_between _ _ _ _ _ c.first_row-row.ensures c.first_row-row-end.ensures c.loop-row.auto.row c.loop-row-test.true,
+  c.tells_row.ensures.0 c.if-tells_row.true,
+)
 
 pub loop-row-preserved : goal.loop-row-preserved
 loop-row-preserved c = below_more _ c.loop-row.row c.loop-row.invariant (λ row tells. both_ways _ c.if-tells_row.false (c.tells_row.ensures.1 tells))

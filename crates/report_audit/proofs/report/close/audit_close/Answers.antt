@@ -9,7 +9,8 @@ audit_block-found-requires-clause-nodes g c κs within =
 
 pub returns-in_ok-_reply-in-Ok : goal.returns-in_ok-_reply-in-Ok
 returns-in_ok-_reply-in-Ok g c =
-    takes_close c.args.context.now.settings.now c.args.context.now.network.now c.args.book.now c.apply.new.self c.args.snapshot.now c.args.lane c.snapshot.inside.batch c.next_position-position.result
+    takes_close c.args.context.now.settings.now c.args.context.now.network.now c.args.book.now c.apply.new.self c.args.snapshot.now c.args.lane
+    c.snapshot.inside.batch c.next_position-position.result
     c.args.between.line.now c.args.between.after.now c.in-Ok.block.rest.now c.in-Ok.block.outcome c.in_ok-_reply-in-Ok._reply
     (ap (λ (b : Batch). b.number) c.snapshot.view_is) c.is_close_line.ensures.low c.requires.sealed c.next_position-position.ensures
     (c.in_ok-is_close_line.ensures.line.0 c.if-not-branch.false) c.in-Ok.ensures.good c.in_ok-_reply-in-Ok.ensures.applied

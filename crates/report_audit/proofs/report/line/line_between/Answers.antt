@@ -8,4 +8,5 @@ returns-in_default c = λ settings roads place is.
 pub returns-in-None : goal.returns-in-None
 returns-in-None c = λ settings roads place is.
     form_here settings roads c.args.report.now c.args.rest.now place c.line_at-in-None.result c.line_at-in-None.ensures
-    (open_form place c.args.rest.now c.in-Some.line.now c.in-Some.after.now is (record { whole = c.in-Some.ensures.0; one = c.in-Some.ensures.1 }) c.in-None.ensures)
+    (open_form place c.args.rest.now c.in-Some.line.now c.in-Some.after.now is (record { whole = c.in-Some.ensures.0; one = c.in-Some.ensures.1 })
+    c.in-None.ensures)

@@ -19,7 +19,8 @@ entries-preserved g c = one_more_read c.args.round.now c.entries.invariant c.in-
 
 pub returns-in-Err-audit_entry : goal.returns-in-Err-audit_entry
 returns-in-Err-audit_entry g c = λ vehicles rounds workers before later count between.
-    fault_within c.args.round.now between c.entries.invariant (λ done. absurd (both_ways _ c.entries-test.true (c.are_done.ensures.1 done))) c.in-Err-audit_entry.fault c.in-Err-audit_entry.ensures
+    fault_within c.args.round.now between c.entries.invariant (λ done. absurd (both_ways _ c.entries-test.true (c.are_done.ensures.1 done)))
+    c.in-Err-audit_entry.fault c.in-Err-audit_entry.ensures
 
 pub returns : goal.returns
 returns g c = (c.entries.lanes, c.entries.sealed, c.entries.invariant, c.are_done.ensures.0 c.entries-test.false)

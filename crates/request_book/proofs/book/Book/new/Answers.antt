@@ -9,4 +9,13 @@ over-requires c = subst (λ ns. All (λ (v : Vehicle). IsNode ns v.node) c.args.
 pub returns : goal.returns
 returns c =
     let fleet = c.args.fleet in
-    subst (λ ns. IfOk c.over.result (λ book. book ≡ record { nodes = ns; wait = c.args.wait; first = 0; base = opening fleet; entries = []; state = opening fleet; spare = 0 })) c.in_ok-number_nodes.ensures c.over.ensures
+    subst (λ ns. IfOk c.over.result (λ book. book ≡ record {
+      nodes = ns;
+      wait = c.args.wait;
+      first = 0;
+      base = opening fleet;
+      entries = [];
+      state =
+          opening fleet;
+      spare = 0;
+    })) c.in_ok-number_nodes.ensures c.over.ensures

@@ -4,4 +4,5 @@ use Rattle.request_book.proofs.book.Book.reserve.Goals as goal
 pub invariant_of-self-in_err-reserve-2 : goal.invariant_of-self-in_err-reserve-2
 invariant_of-self-in_err-reserve-2 c =
     let h = c.self.invariant in
-    stored-roomier _ _ _ _ _ _ _ _ h c.in_ok-reserve.ensures.items c.in_err-reserve-2.ensures.state c.in_ok-reserve.ensures.len c.in_ok-reserve.ensures.capacity c.in_err-reserve-2.ensures.indexed (c.in_err-reserve-2.ensures.room c.self.inside.reserved h.room)
+    stored-roomier _ _ _ _ _ _ _ _ h c.in_ok-reserve.ensures.items c.in_err-reserve-2.ensures.state c.in_ok-reserve.ensures.len c.in_ok-reserve.ensures.capacity
+    c.in_err-reserve-2.ensures.indexed (c.in_err-reserve-2.ensures.room c.self.inside.reserved h.room)

@@ -11,7 +11,8 @@ returns-then-is_some c =
     let told = c.is_some.ensures in
     let holds = c.if-is_some.true in
     let some : is_some c.seal_refusal.result ≡ true = cc in
-    would_seal-refused b.wait (state_of b.register) c.args.second c.seal_refusal.result c.seal_refusal.ensures some ∙ (λ i. would_seal (wait i) (state i) c.args.second)
+    would_seal-refused b.wait (state_of b.register) c.args.second c.seal_refusal.result c.seal_refusal.ensures some ∙
+    (λ i. would_seal (wait i) (state i) c.args.second)
 
 pub returns : goal.returns
 returns c =

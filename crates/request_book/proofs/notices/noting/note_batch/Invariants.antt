@@ -8,4 +8,5 @@ use Rattle.request_book.proofs.notices.noting.note_batch.Given as goal
 
 abbrev pub invariant-loop-rider : goal.invariant-loop-rider
 invariant-loop-rider l =
-    l.told.items ≡ l.initial.told.items ++ map (λ r. notice_of l.batch.number l.chosen r.id) (filter (λ r. option_map_or (λ known. is_active known.status) (find_rider r.id l.before.riders.items) false) (take l.rider-index l.rider-items))
+    l.told.items ≡ l.initial.told.items ++ map (λ r. notice_of l.batch.number l.chosen r.id)
+    (filter (λ r. option_map_or (λ known. is_active known.status) (find_rider r.id l.before.riders.items) false) (take l.rider-index l.rider-items))

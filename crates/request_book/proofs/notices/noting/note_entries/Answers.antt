@@ -17,9 +17,11 @@ loop-entry-preserved c =
     record {
       indexed = c.run.ensures.indexed;
       consistent = subst IsConsistent (sym (ap (λ p. p.0) stepped)) (step-consistent nodes c.args.wait (state_of l.register) e.command l.invariant.consistent);
-      told = told-next nodes c.args.wait (state_of l.register) (state_of c.run.new.self) c.in_ok-run.field-0 c.args.entries.now l.entry-index e l.told.items c.note_step.new.told.items _
+      told = told-next nodes c.args.wait (state_of l.register) (state_of c.run.new.self) c.in_ok-run.field-0 c.args.entries.now l.entry-index e l.told.items
+          c.note_step.new.told.items _
           c.loop-entry-test.true c.entry-item.is c.in_ok-note_step.ensures stepped l.invariant.told;
     }
 
 pub returns : goal.returns
-returns c = told-end c.args.nodes.now.names c.args.wait (state_of c.loop-entry.register) c.args.entries.now c.loop-entry.entry-index c.loop-entry.told.items _ (omega arith) c.loop-entry.invariant.told
+returns c = told-end c.args.nodes.now.names c.args.wait (state_of c.loop-entry.register) c.args.entries.now c.loop-entry.entry-index c.loop-entry.told.items _
+    (omega arith) c.loop-entry.invariant.told

@@ -11,7 +11,8 @@ pub loop-at-preserved-in-Ok : goal.loop-at-preserved-in-Ok
 loop-at-preserved-in-Ok g c =
     let longer = length-set c.loop-at.notifiers.items c.loop-at.at c.tell_one.new.notifier in
     record {
-      heard = told-kept _ c.args.notices.now c.loop-at.at _ _ _ (omega (arith, c.loop-at-test.true, c.len.ensures)) c.index_mut.ensures.value c.loop-at.invariant.heard _ c.in-Ok.ensures.heard;
+      heard = told-kept _ c.args.notices.now c.loop-at.at _ _ _ (omega (arith, c.loop-at-test.true, c.len.ensures)) c.index_mut.ensures.value
+          c.loop-at.invariant.heard _ c.in-Ok.ensures.heard;
       within = omega (arith, longer, c.loop-at-test.true, c.len.ensures);
       fewer = omega (arith, longer, c.loop-at.invariant.fewer);
     }
@@ -20,12 +21,14 @@ pub loop-at-preserved : goal.loop-at-preserved
 loop-at-preserved g c =
     let items = c.remove-gone.ensures.items in
     let longer = length-set c.loop-at.notifiers.items c.loop-at.at c.tell_one.new.notifier in
-    let here : c.loop-at.at < length (set c.loop-at.notifiers.items c.loop-at.at c.tell_one.new.notifier) = omega (arith, longer, c.loop-at-test.true, c.len.ensures) in
+    let here : c.loop-at.at < length (set c.loop-at.notifiers.items c.loop-at.at c.tell_one.new.notifier) =
+    omega (arith, longer, c.loop-at-test.true, c.len.ensures) in
     let shorter = length-remove (set c.loop-at.notifiers.items c.loop-at.at c.tell_one.new.notifier) c.loop-at.at here in
     let left = ap length items in
     record {
       heard =
-          told-gone _ c.args.notices.now c.loop-at.at _ _ _ (omega (arith, c.loop-at-test.true, c.len.ensures)) c.index_mut.ensures.value c.loop-at.invariant.heard
+          told-gone _ c.args.notices.now c.loop-at.at _ _ _ (omega (arith, c.loop-at-test.true, c.len.ensures)) c.index_mut.ensures.value
+          c.loop-at.invariant.heard
           c.tell_one.new.notifier c.remove-gone.new.self.items items c.in-Err.ensures.unsure;
       within = omega (arith, left, shorter, here);
       fewer = omega (arith, left, shorter, longer, c.loop-at.invariant.fewer);

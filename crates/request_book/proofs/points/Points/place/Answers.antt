@@ -10,4 +10,5 @@ as_option P Q (Err i) h = h
 
 pub returns : goal.returns
 returns c =
-    rw (c.ok.ensures.value, ← c.self.view_is, ← c.deref.ensures.value) (as_option _ _ c.binary_search.result (found_place c.deref.result.now c.args.node c.binary_search.result c.binary_search.ensures.position (rw c.deref.ensures.value c.self.invariant)))
+    rw (c.ok.ensures.value, ← c.self.view_is, ← c.deref.ensures.value) (as_option _ _ c.binary_search.result
+    (found_place c.deref.result.now c.args.node c.binary_search.result c.binary_search.ensures.position (rw c.deref.ensures.value c.self.invariant)))

@@ -1,5 +1,19 @@
 use Rattle.std.proofs.Common.{◌≡◌, List, Option, Some, None, map, refl, sym, ap, subst, ◌∙◌}
-use Rattle.request_book.proofs.Common.{Batch, Rider, Register, Reply, Closed, BookRider, State, after_answer, KeysDiffer, KeysRise, not_this_batch, state_of, IsIndexed}
+use Rattle.request_book.proofs.Common.{
+  Batch,
+  Rider,
+  Register,
+  Reply,
+  Closed,
+  BookRider,
+  State,
+  after_answer,
+  KeysDiffer,
+  KeysRise,
+  not_this_batch,
+  state_of,
+  IsIndexed,
+}
 use Rattle.request_book.proofs.lemmas.register.CloseLemmas.{answer-settled}
 use Rattle.request_book.proofs.lemmas.register.IndexLemmas.{IsPool-same}
 use Rattle.request_book.proofs.lemmas.values.KeyedLemmas.{rise_from_increasing}
@@ -8,11 +22,13 @@ use Rattle.request_book.proofs.register.Register.close.Goals.{in-Some-take, in_d
 use Rattle.request_book.proofs.register.Register.close.Goals as goal
 
 pub returns-in-Some-clause-stepped : goal.returns-in-Some-clause-stepped
-returns-in-Some-clause-stepped c = close-known (state_of c.args.self.now) c.args.batch c.args.answer.now (Some c.in-Some.refusal) (sym c.in-Some.is ∙ c.not_this_batch.ensures)
+returns-in-Some-clause-stepped c = close-known (state_of c.args.self.now) c.args.batch c.args.answer.now (Some c.in-Some.refusal)
+    (sym c.in-Some.is ∙ c.not_this_batch.ensures)
 
 pub settle-requires-clause-rise : goal.settle-requires-clause-rise
 settle-requires-clause-rise c =
-    subst (KeysRise (λ (r : Rider). r.id)) (sym c.as_slice-batch.ensures) (rise_from_increasing (λ (r : Rider). r.id) c.snapshot.inside.riders c.snapshot.invariant.riders_rise)
+    subst (KeysRise (λ (r : Rider). r.id)) (sym c.as_slice-batch.ensures) (rise_from_increasing (λ (r : Rider). r.id) c.snapshot.inside.riders
+    c.snapshot.invariant.riders_rise)
 
 pub returns-clause-stepped : goal.returns-clause-stepped
 returns-clause-stepped c =
@@ -30,7 +46,8 @@ returns-clause-stepped c =
           let whole : Register → Made = λ u. (state_of u, Closed) in
           let make : List BookRider → Option Batch → Made = λ rs o. (record s { riders = rs; sealed = o }, Closed) in
           let closed : State → Made = λ t. (t, Closed) in
-          ap whole w.self-is ∙ ap (λ rs. make rs c.take.new.self) riders ∙ ap (make (after_answer b.riders answer g.riders.items)) c.take.ensures.after ∙ ap closed (sym (closed-some s b answer sealed)) ∙ known
+          ap whole w.self-is ∙ ap (λ rs. make rs c.take.new.self) riders ∙ ap (make (after_answer b.riders answer g.riders.items)) c.take.ensures.after ∙
+          ap closed (sym (closed-some s b answer sealed)) ∙ known
       | in_default-take w ↦
           let none : g.sealed ≡ None = sym c.take.ensures.value ∙ w.in_default-take.is in
           let refused = sym (ap (λ o. not_this_batch o c.args.batch) none) ∙ sym c.not_this_batch.ensures ∙ c.in_default.is in

@@ -5,7 +5,8 @@ use Rattle.request_book.proofs.register.Register.number.Goals as goal
 
 pub number_vehicles-requires-clause-differ : goal.number_vehicles-requires-clause-differ
 number_vehicles-requires-clause-differ c =
-    subst (KeysDiffer (λ (v : Vehicle). v.id)) (sym c.deref.ensures.value) (KeysDiffer-from_rise (λ (v : Vehicle). v.id) c.args.self.now.vehicles.items c.requires.rise)
+    subst (KeysDiffer (λ (v : Vehicle). v.id)) (sym c.deref.ensures.value) (KeysDiffer-from_rise (λ (v : Vehicle). v.id) c.args.self.now.vehicles.items
+    c.requires.rise)
 
 nothing-differs : KeysDiffer (λ (r : BookRider). r.id) []
 unfolding KeysDiffer

@@ -14,8 +14,10 @@ loop-id-preserved c =
     let riders = c.args.self.now.riders.items in
     let read = c.rider-rider.ensures in
     record {
-      over = made-more (λ id. over (find_rider id riders)) ids l.id-index c.id-item.result c.if_over.result _ _ c.loop-id-test.true c.id-item.is (c.if_over.ensures ∙ ap over read) l.invariant.over c.in_ok-push_some.ensures;
-      asking = made-more (λ id. asks (find_rider id riders)) ids l.id-index c.id-item.result c.if_asking.result _ _ c.loop-id-test.true c.id-item.is (c.if_asking.ensures ∙ ap asks read) l.invariant.asking c.in_ok-push_some-2.ensures;
+      over = made-more (λ id. over (find_rider id riders)) ids l.id-index c.id-item.result c.if_over.result _ _ c.loop-id-test.true c.id-item.is
+          (c.if_over.ensures ∙ ap over read) l.invariant.over c.in_ok-push_some.ensures;
+      asking = made-more (λ id. asks (find_rider id riders)) ids l.id-index c.id-item.result c.if_asking.result _ _ c.loop-id-test.true c.id-item.is
+          (c.if_asking.ensures ∙ ap asks read) l.invariant.asking c.in_ok-push_some-2.ensures;
     }
 
 pub returns-clause-over : goal.returns-clause-over
@@ -25,5 +27,6 @@ returns-clause-over c =
 
 pub returns-clause-asking : goal.returns-clause-asking
 returns-clause-asking c =
-    let made : ℕ → Option Rider = λ id. option_and_then (λ r. asking c.args.second (after_seal c.args.wait c.args.second r)) (find_rider id c.args.self.now.riders.items) in
+    let made : ℕ → Option Rider = λ id. option_and_then (λ r. asking c.args.second (after_seal c.args.wait c.args.second r))
+    (find_rider id c.args.self.now.riders.items) in
     c.loop-id.invariant.asking ∙ ap (filter_map made) (take_all c.loop-id.id-index c.deref-id-items.result.now (omega arith) ∙ c.deref-id-items.ensures.value)

@@ -32,7 +32,8 @@ returns-clause-indexed c =
       vehicle_ids = h.vehicle_ids;
       riders = subst (KeysDiffer (λ x. x.id)) (sym c.add.ensures.items) (KeysDiffer-push (λ x. x.id) r rs h.riders c.requires.new);
       vehicles = h.vehicles;
-      pool_rise = subst (KeysRise (λ (n : ℕ). n)) (sym items) (rise-entered (is_active r.status) g.pool.items r.id h.pool_rise (h.pool r.id ∙ ap (option_and_then pool_id) c.requires.new));
+      pool_rise = subst (KeysRise (λ (n : ℕ). n)) (sym items) (rise-entered (is_active r.status) g.pool.items r.id h.pool_rise
+          (h.pool r.id ∙ ap (option_and_then pool_id) c.requires.new));
       pool = IsPool-same _ _ _ _ items c.add.ensures.items (IsPool-entered g.pool.items rs r c.requires.new h.pool);
       pool_room = omega (arith, h.pool_room, c.join_if_active.ensures.room);
     }

@@ -11,7 +11,8 @@ place-requires-clause-new c =
     let r = c.rider-item.result in
     let i = c.loop-rider.rider-index in
     subst (λ us. find_rider r.id us ≡ None) (sym (ap (λ (s : State). s.riders) c.loop-rider.invariant.state))
-    (ap (λ (x : BookRider). find_rider x.id (take i rs)) c.rider-item.is ∙ look_up-take (λ (x : BookRider). x.id) i rs r c.requires.differ c.loop-rider-test.true)
+    (ap (λ (x : BookRider). find_rider x.id (take i rs)) c.rider-item.is ∙ look_up-take (λ (x : BookRider). x.id) i rs r c.requires.differ
+    c.loop-rider-test.true)
 
 pub place-requires-clause-pool_room : goal.place-requires-clause-pool_room
 place-requires-clause-pool_room c active =
@@ -30,7 +31,8 @@ loop-rider-preserved c =
     let rs = c.args.riders.now in
     let r = c.rider-item.result in
     let grown : State → State = λ s. record s { riders = s.riders ++ r ∷ [] } in
-    let more : take (l.rider-index + 1) rs ≡ take l.rider-index rs ++ r ∷ [] = take_more rs l.rider-index r c.loop-rider-test.true ∙ ap (λ x. take l.rider-index rs ++ x ∷ []) (sym c.rider-item.is) in
+    let more : take (l.rider-index + 1) rs ≡ take l.rider-index rs ++ r ∷ [] = take_more rs l.rider-index r c.loop-rider-test.true ∙
+    ap (λ x. take l.rider-index rs ++ x ∷ []) (sym c.rider-item.is) in
     let one_less : length rs - l.rider-index ≡ (length rs - (l.rider-index + 1)) + 1 = omega (arith, c.loop-rider-test.true) in
     record {
       state = c.place.ensures.state ∙ ap grown l.invariant.state ∙ ap (λ us. record (state_of c.reserve.new.self) { riders = us }) (sym more);

@@ -1,5 +1,17 @@
 use Rattle.std.proofs.Common.{◌≡◌, ℕ, [], ◌∷◌, Option, Some, None, ap, ◌∙◌, arith, vec_len, nat_le, length, if◌then◌else◌}
-use Rattle.request_book.proofs.Common.{BookRefusal, PoolFull, BookFull, first_of, duplicate_rider, unknown_node, same_place, pool_full, book_full, find_rider, pool_count}
+use Rattle.request_book.proofs.Common.{
+  BookRefusal,
+  PoolFull,
+  BookFull,
+  first_of,
+  duplicate_rider,
+  unknown_node,
+  same_place,
+  pool_full,
+  book_full,
+  find_rider,
+  pool_count,
+}
 use Rattle.request_book.proofs.lemmas.register.IndexLemmas.{length-pool}
 use Rattle.request_book.proofs.register.Register.submit_refusal.Goals as goal
 
@@ -20,5 +32,6 @@ returns c =
     let e5 : c.pool_full.result ≡ pool_full g.riders.items = c.pool_full.ensures ∙ ap full (c.len.ensures ∙ pool) in
     let e6 : c.book_full.result ≡ book_full g.riders.items = c.book_full.ensures ∙ ap most (c.len-2.ensures ∙ riders) in
     let list : (c.duplicate_rider.result ∷ c.unknown_node.result ∷ c.unknown_node-2.result ∷ c.same_place.result ∷ c.pool_full.result ∷ c.book_full.result ∷ [])
-    ≡ (duplicate_rider (find_rider r.id g.riders.items) ∷ unknown_node nodes r.origin ∷ unknown_node nodes r.destination ∷ same_place r.origin r.destination ∷ pool_full g.riders.items ∷ book_full g.riders.items ∷ []) = cc in
+    ≡ (duplicate_rider (find_rider r.id g.riders.items) ∷ unknown_node nodes r.origin ∷ unknown_node nodes r.destination ∷ same_place r.origin r.destination ∷
+    pool_full g.riders.items ∷ book_full g.riders.items ∷ []) = cc in
     c.first_of.ensures ∙ ap first_of list

@@ -6,4 +6,6 @@ pub returns : goal.returns
 returns c =
     let g = c.args.self.now in
     let e = c.number_of.ensures in
-    found_by_keys (λ v. v.id) c.args.vehicle _ (eqb_comm c.args.vehicle) g.vehicles.items (KeysDiffer-from_rise (λ v. v.id) g.vehicles.items c.requires.vehicles) g.vehicle_ids.names c.number_of.result c.requires.vehicle_ids (rw c.get.ensures.value at e.number) (rw c.get.ensures.value at e.found)
+    found_by_keys (λ v. v.id) c.args.vehicle _ (eqb_comm c.args.vehicle) g.vehicles.items (KeysDiffer-from_rise (λ v. v.id) g.vehicles.items
+    c.requires.vehicles) g.vehicle_ids.names c.number_of.result c.requires.vehicle_ids (rw c.get.ensures.value at e.number)
+    (rw c.get.ensures.value at e.found)

@@ -6,9 +6,11 @@ pub returns-in-Some-clause-changed : goal.returns-in-Some-clause-changed
 returns-in-Some-clause-changed c =
     let e = c.in-Some.ensures in
     let x = c.index_mut.result.now in
-    write_found (λ r. r.id) c.args.rider _ (eqb_comm c.args.rider) c.args.riders.now.items c.requires.differ waits_again c.args.ids.now.names c.in-Some.at x c.wait_again.new.rider c.requires.ids (rw c.get.ensures.value at e.number) c.index_mut.ensures.value c.wait_again.ensures
+    write_found (λ r. r.id) c.args.rider _ (eqb_comm c.args.rider) c.args.riders.now.items c.requires.differ waits_again c.args.ids.now.names c.in-Some.at x
+    c.wait_again.new.rider c.requires.ids (rw c.get.ensures.value at e.number) c.index_mut.ensures.value c.wait_again.ensures
 
 pub returns-in_default-clause-changed : goal.returns-in_default-clause-changed
 returns-in_default-clause-changed c =
     let e = c.in_default.ensures in
-    write_none (λ r. r.id) c.args.rider _ (eqb_comm c.args.rider) c.args.riders.now.items c.requires.differ waits_again c.args.ids.now.names c.requires.ids (rw c.get.ensures.value at e.number) (rw c.get.ensures.value at e.found)
+    write_none (λ r. r.id) c.args.rider _ (eqb_comm c.args.rider) c.args.riders.now.items c.requires.differ waits_again c.args.ids.now.names c.requires.ids
+    (rw c.get.ensures.value at e.number) (rw c.get.ensures.value at e.found)

@@ -20,18 +20,23 @@ loop-stop-preserved c =
       | then-stop w ↦
           let changed = w.promise_one.ensures.changed in
           let is = ap (λ (r : Vec BookRider Global). r.items) w.riders-is in
-          let turned = λ (s : PlannedStop). promised_in_turn batch (trip_picks v (drop (i + 1) xs)) (changed_at (λ r. r.id) s.rider (takes_promise batch (record { rider = s.rider; promise = record { vehicle = v; pickup = s.second } })) rs) in
+          let turned = λ (s : PlannedStop). promised_in_turn batch (trip_picks v (drop (i + 1) xs))
+          (changed_at (λ r. r.id) s.rider (takes_promise batch (record { rider = s.rider; promise = record { vehicle = v; pickup = s.second } })) rs) in
           record {
-            turn = ap (promised_in_turn batch (trip_picks v (drop (i + 1) xs))) (is ∙ changed) ∙ ap turned at ∙ stops-pick batch v xs i x rs c.loop-stop-test.true (sym (ap (λ (s : PlannedStop). s.pick) at) ∙ w.if-stop.true) ∙ inv.turn;
-            ids = inv.ids ∙ sym (ap (map (λ r. r.id)) (is ∙ changed) ∙ map-changed_at (λ r. r.id) x.rider (takes_promise batch p) (takes_promise-id batch p) rs);
-            differ = subst (KeysDiffer (λ r. r.id)) (sym (is ∙ changed)) (KeysDiffer-changed_at (λ r. r.id) x.rider (takes_promise batch p) (takes_promise-id batch p) rs inv.differ);
+            turn = ap (promised_in_turn batch (trip_picks v (drop (i + 1) xs))) (is ∙ changed) ∙ ap turned at ∙
+                stops-pick batch v xs i x rs c.loop-stop-test.true (sym (ap (λ (s : PlannedStop). s.pick) at) ∙ w.if-stop.true) ∙ inv.turn;
+            ids = inv.ids ∙ sym (ap (map (λ r. r.id)) (is ∙ changed) ∙ map-changed_at (λ r. r.id) x.rider (takes_promise batch p) (takes_promise-id batch p)
+                rs);
+            differ = subst (KeysDiffer (λ r. r.id)) (sym (is ∙ changed)) (KeysDiffer-changed_at (λ r. r.id) x.rider (takes_promise batch p)
+                (takes_promise-id batch p) rs inv.differ);
             len = omega (arith, inv.len, w.promise_one.ensures.len, ap vec_len w.riders-is);
             capacity = omega (arith, inv.capacity, w.promise_one.ensures.capacity, ap vec_capacity w.riders-is);
           }
       | else-stop w ↦
           let is = ap (λ (r : Vec BookRider Global). r.items) w.riders-is in
           record {
-            turn = ap (promised_in_turn batch (trip_picks v (drop (i + 1) xs))) is ∙ stops-drop batch v xs i x rs c.loop-stop-test.true (sym (ap (λ (s : PlannedStop). s.pick) at) ∙ w.if-stop.false) ∙ inv.turn;
+            turn = ap (promised_in_turn batch (trip_picks v (drop (i + 1) xs))) is ∙ stops-drop batch v xs i x rs c.loop-stop-test.true
+                (sym (ap (λ (s : PlannedStop). s.pick) at) ∙ w.if-stop.false) ∙ inv.turn;
             ids = inv.ids ∙ sym (ap (map (λ r. r.id)) is);
             differ = subst (KeysDiffer (λ r. r.id)) (sym is) inv.differ;
             len = omega (arith, inv.len, ap vec_len w.riders-is);

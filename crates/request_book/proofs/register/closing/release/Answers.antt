@@ -16,7 +16,8 @@ loop-rider-preserved c =
     let more = at_drop_more (λ l. changed_in_turn (λ r. r.id) waits_again (map (λ r. r.id) l) rs) xs i x c.loop-rider-test.true in
     record {
       turn =
-          ap (changed_in_turn (λ r. r.id) waits_again (map (λ r. r.id) (drop (i + 1) xs))) (changed ∙ ap (λ k. changed_at (λ r. r.id) k waits_again rs) (ap (λ y. y.id) c.rider-item.is))
+          ap (changed_in_turn (λ r. r.id) waits_again (map (λ r. r.id) (drop (i + 1) xs))) (changed ∙
+          ap (λ k. changed_at (λ r. r.id) k waits_again rs) (ap (λ y. y.id) c.rider-item.is))
           ∙ sym more ∙ inv.turn;
       ids = inv.ids ∙ sym (ap (map (λ r. r.id)) changed ∙ map-changed_at (λ r. r.id) x.id waits_again waits_again-id rs);
       differ = subst (KeysDiffer (λ r. r.id)) (sym changed) (KeysDiffer-changed_at (λ r. r.id) x.id waits_again waits_again-id rs inv.differ);
@@ -27,4 +28,5 @@ loop-rider-preserved c =
 pub returns-clause-changed : goal.returns-clause-changed
 unfolding changed_in_turn
 returns-clause-changed c =
-    sym (ap (λ l. changed_in_turn (λ r. r.id) waits_again (map (λ r. r.id) l) c.loop-rider.riders.items) (drop_all c.loop-rider.rider-index c.args.batch.now (omega arith))) ∙ c.loop-rider.invariant.turn
+    sym (ap (λ l. changed_in_turn (λ r. r.id) waits_again (map (λ r. r.id) l) c.loop-rider.riders.items)
+    (drop_all c.loop-rider.rider-index c.args.batch.now (omega arith))) ∙ c.loop-rider.invariant.turn

@@ -9,4 +9,5 @@ returns-clause-known c =
     rw (← c.self.view_is) (λ yes. known.0 (sym told ∙ yes), λ there. told ∙ known.1 there)
 
 pub returns-clause-named : goal.returns-clause-named
-returns-clause-named c = rw (← c.self.view_is) (named_at c.number_of.result c.self.inside.nodes c.args.node (rw c.get.ensures.value at c.number_of.ensures.number))
+returns-clause-named c = rw (← c.self.view_is) (named_at c.number_of.result c.self.inside.nodes c.args.node
+    (rw c.get.ensures.value at c.number_of.ensures.number))

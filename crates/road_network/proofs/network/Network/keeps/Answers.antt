@@ -10,5 +10,6 @@ returns c =
       few_nodes = kept.few_nodes;
       few_arcs = omega (arith, long, kept.whole, kept.few_hops);
       distinct = c.keeps.ensures;
-      arcs = All-stored_arcs (length c.self.inside.nodes) (length c.self.inside.nodes) c.self.inside.ends.items c.self.inside.hops.items (omega arith) kept.among;
+      arcs = All-stored_arcs (length c.self.inside.nodes) (length c.self.inside.nodes) c.self.inside.ends.items c.self.inside.hops.items (omega arith)
+          kept.among;
     })

@@ -10,7 +10,8 @@ returns-clause-log g c =
     let r = c.requires in
     let view = c.self.view_is in
     let lanes = ap (λ v. v.lanes) view ∙ sym r.len in
-    let cut = λ (k : ℕ) (d : PassValue _ _ _) (lt : k < length c.args.passes.items). claimed_each e.entries c.args.passes.items (subst (Claimed e.entries) c.join_all-all.ensures.all.claims e.claimed) k d lt ∙ ap (λ n. calls_of n e.entries) (r.lanes k d lt) in record {
+    let cut = λ (k : ℕ) (d : PassValue _ _ _) (lt : k < length c.args.passes.items). claimed_each e.entries c.args.passes.items
+    (subst (Claimed e.entries) c.join_all-all.ensures.all.claims e.claimed) k d lt ∙ ap (λ n. calls_of n e.entries) (r.lanes k d lt) in record {
       since = e.entries;
       gained = e.logged ∙ ap (λ v. g.B.Logged.log v.start ++ e.entries) view;
       cut = cut;

@@ -12,7 +12,8 @@ serve-requires-clause-serves g c =
     let out = c.take_out-value.ensures in
     let lane = c.pass.inside.lane in
     let same = same_held _ _ _ out.value (ap (λ m. m.1) t.now) in
-    let is = back_in_slot v _ _ _ _ t.start t.value c.play-played.new.self lane drawn.0 turn.0 (calls_in v.claims) t.entries c.pass.inside.seat.me.1 drawn.2 c.pass.invariant.claims t.opened t.now out.left c.put_back.ensures.value in
+    let is = back_in_slot v _ _ _ _ t.start t.value c.play-played.new.self lane drawn.0 turn.0 (calls_in v.claims) t.entries c.pass.inside.seat.me.1 drawn.2
+    c.pass.invariant.claims t.opened t.now out.left c.put_back.ensures.value in
     record {
       start = t.start;
       value = c.play-played.new.self;
@@ -22,7 +23,8 @@ serve-requires-clause-serves g c =
       calls = calls_in v.claims;
       entries = t.entries;
       is = is;
-      sound = stays_sound g.B.Logged.root g.B.Logged.log g.B.Logged.spare t.start t.value _ c.play-played.new.self t.entries same t.sound c.play-played.ensures.root c.in_default.ensures.refused c.in_default.ensures.keeps;
+      sound = stays_sound g.B.Logged.root g.B.Logged.log g.B.Logged.spare t.start t.value _ c.play-played.new.self t.entries same t.sound
+          c.play-played.ensures.root c.in_default.ensures.refused c.in_default.ensures.keeps;
     }
 
 pub note-position-requires-clause-notes : goal.note-position-requires-clause-notes
@@ -34,7 +36,8 @@ note-position-requires-clause-notes g c =
     let out = c.take_out-value.ensures in
     let lane = c.pass.inside.lane in
     let same = same_held _ _ _ out.value (ap (λ m. m.1) t.now) in
-    let is = back_in_slot v _ _ _ _ t.start t.value c.play-played.new.self lane drawn.0 turn.0 (calls_in v.claims) t.entries c.pass.inside.seat.me.1 drawn.2 c.pass.invariant.claims t.opened t.now out.left c.put_back.ensures.value in
+    let is = back_in_slot v _ _ _ _ t.start t.value c.play-played.new.self lane drawn.0 turn.0 (calls_in v.claims) t.entries c.pass.inside.seat.me.1 drawn.2
+    c.pass.invariant.claims t.opened t.now out.left c.put_back.ensures.value in
     let last = entry lane c.args.call c.in-Ok.reply in
     let grown = c.in-Ok.ensures.entry ∙ ap (λ l. l ++ last ∷ []) (ap g.B.Logged.log same ∙ t.sound.logged) in
     record {
@@ -61,10 +64,12 @@ serve-requires-2-clause-serves g c =
     let out = c.take_out-value.ensures in
     let lane = c.pass.inside.lane in
     let same = same_held _ _ _ out.value (ap (λ m. m.1) t.now) in
-    let is = back_in_slot v _ _ _ _ t.start t.value c.play-played.new.self lane drawn.0 turn.0 (calls_in v.claims) t.entries c.pass.inside.seat.me.1 drawn.2 c.pass.invariant.claims t.opened t.now out.left c.put_back.ensures.value in
+    let is = back_in_slot v _ _ _ _ t.start t.value c.play-played.new.self lane drawn.0 turn.0 (calls_in v.claims) t.entries c.pass.inside.seat.me.1 drawn.2
+    c.pass.invariant.claims t.opened t.now out.left c.put_back.ensures.value in
     let last = entry lane c.args.call c.in-Ok.reply in
     let grown = c.in-Ok.ensures.entry ∙ ap (λ l. l ++ last ∷ []) (ap g.B.Logged.log same ∙ t.sound.logged) in
-    let noted = noted_is g.B.Logged.log t.start c.play-played.new.self _ _ lane (length t.entries) turn.0 _ (calls_in v.claims) t.entries last is c.note-position.ensures.noted grown in
+    let noted = noted_is g.B.Logged.log t.start c.play-played.new.self _ _ lane (length t.entries) turn.0 _ (calls_in v.claims) t.entries last is
+    c.note-position.ensures.noted grown in
     let entries = t.entries ++ last ∷ [] in
     record {
       start = t.start;
@@ -75,7 +80,8 @@ serve-requires-2-clause-serves g c =
       calls = calls_of lane entries;
       entries = entries;
       is = noted.1;
-      sound = grows_sound g.B.Logged.root g.B.Logged.log g.B.Logged.spare t.start t.value _ c.play-played.new.self t.entries last (g.B.Logged.light c.args.call) same t.sound c.play-played.ensures.root c.in-Ok.ensures.entry c.in-Ok.ensures.spends c.play-played.ensures.heavy;
+      sound = grows_sound g.B.Logged.root g.B.Logged.log g.B.Logged.spare t.start t.value _ c.play-played.new.self t.entries last (g.B.Logged.light c.args.call)
+          same t.sound c.play-played.ensures.root c.in-Ok.ensures.entry c.in-Ok.ensures.spends c.play-played.ensures.heavy;
     }
 
 pub returns-clause-calls : goal.returns-clause-calls
@@ -87,10 +93,12 @@ returns-clause-calls g c =
     let out = c.take_out-value.ensures in
     let lane = c.pass.inside.lane in
     let same = same_held _ _ _ out.value (ap (λ m. m.1) t.now) in
-    let is = back_in_slot v _ _ _ _ t.start t.value c.play-played.new.self lane drawn.0 turn.0 (calls_in v.claims) t.entries c.pass.inside.seat.me.1 drawn.2 c.pass.invariant.claims t.opened t.now out.left c.put_back.ensures.value in
+    let is = back_in_slot v _ _ _ _ t.start t.value c.play-played.new.self lane drawn.0 turn.0 (calls_in v.claims) t.entries c.pass.inside.seat.me.1 drawn.2
+    c.pass.invariant.claims t.opened t.now out.left c.put_back.ensures.value in
     let last = entry lane c.args.call c.in-Ok.reply in
     let grown = c.in-Ok.ensures.entry ∙ ap (λ l. l ++ last ∷ []) (ap g.B.Logged.log same ∙ t.sound.logged) in
-    let noted = noted_is g.B.Logged.log t.start c.play-played.new.self _ _ lane (length t.entries) turn.0 _ (calls_in v.claims) t.entries last is c.note-position.ensures.noted grown in
+    let noted = noted_is g.B.Logged.log t.start c.play-played.new.self _ _ lane (length t.entries) turn.0 _ (calls_in v.claims) t.entries last is
+    c.note-position.ensures.noted grown in
     let known = subst (Claimed t.entries) (ap (λ m. m.0.claims) drawn.2 ∙ c.pass.invariant.claims) t.claimed in
     let view = c.pass.view_is in
     (calls_grown _ _ t.start c.play-played.new.self lane turn.0 _ (calls_in v.claims) t.entries last noted c.serve-2.ensures.rests refl known.0).0
@@ -105,9 +113,11 @@ returns-clause-seen g c =
     let out = c.take_out-value.ensures in
     let lane = c.pass.inside.lane in
     let same = same_held _ _ _ out.value (ap (λ m. m.1) t.now) in
-    let is = back_in_slot v _ _ _ _ t.start t.value c.play-played.new.self lane drawn.0 turn.0 (calls_in v.claims) t.entries c.pass.inside.seat.me.1 drawn.2 c.pass.invariant.claims t.opened t.now out.left c.put_back.ensures.value in
+    let is = back_in_slot v _ _ _ _ t.start t.value c.play-played.new.self lane drawn.0 turn.0 (calls_in v.claims) t.entries c.pass.inside.seat.me.1 drawn.2
+    c.pass.invariant.claims t.opened t.now out.left c.put_back.ensures.value in
     let last = entry lane c.args.call c.in-Ok.reply in
     let grown = c.in-Ok.ensures.entry ∙ ap (λ l. l ++ last ∷ []) (ap g.B.Logged.log same ∙ t.sound.logged) in
-    let noted = noted_is g.B.Logged.log t.start c.play-played.new.self _ _ lane (length t.entries) turn.0 _ (calls_in v.claims) t.entries last is c.note-position.ensures.noted grown in
+    let noted = noted_is g.B.Logged.log t.start c.play-played.new.self _ _ lane (length t.entries) turn.0 _ (calls_in v.claims) t.entries last is
+    c.note-position.ensures.noted grown in
     let known = subst (Claimed t.entries) (ap (λ m. m.0.claims) drawn.2 ∙ c.pass.invariant.claims) t.claimed in
     (calls_grown _ _ t.start c.play-played.new.self lane turn.0 _ (calls_in v.claims) t.entries last noted c.serve-2.ensures.rests refl known.0).1

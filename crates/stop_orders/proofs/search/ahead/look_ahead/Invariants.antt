@@ -7,5 +7,6 @@ invariant-loop-i l = (l.delay ≡ sum_below (rider_late (travel_time l.times) l.
 
 abbrev pub invariant-loop-j : goal.invariant-loop-j
 invariant-loop-j l =
-    (l.delay ≡ sum_below (rider_late (travel_time l.times) l.task l.label) (length l.task.riders.items) + sum_below (passenger_late (travel_time l.times) l.task l.label) l.j)
+    (l.delay ≡ sum_below (rider_late (travel_time l.times) l.task l.label) (length l.task.riders.items) + sum_below
+    (passenger_late (travel_time l.times) l.task l.label) l.j)
     × (l.delay ≤ 600000000000 + l.j * 100000000000)

@@ -27,7 +27,8 @@ label_after-next-requires-clause-known c = known_next _ _ _ _ c.in-Some.ensures.
 
 pub label_after-next-requires-clause-second : goal.label_after-next-requires-clause-second
 label_after-next-requires-clause-second c =
-    second_most (point_count c.args.times.now) (travel_time c.args.times.now) c.args.times.now.table.times c.args.task.now c.requires.valid c.args.label.now c.in-Some.stop _ (omega (arith, c.requires.small.free)) c.in-Some-second_of.ensures.0 c.in-Some-second_of.ensures.1
+    second_most (point_count c.args.times.now) (travel_time c.args.times.now) c.args.times.now.table.times c.args.task.now c.requires.valid c.args.label.now
+    c.in-Some.stop _ (omega (arith, c.requires.small.free)) c.in-Some-second_of.ensures.0 c.in-Some-second_of.ensures.1
 
 pub label_after-next-requires-clause-seats : goal.label_after-next-requires-clause-seats
 label_after-next-requires-clause-seats c = c.in-Some-second_of.ensures.0.2
@@ -37,8 +38,10 @@ look_ahead-requires c =
     let task = c.args.task.now in
     let label = c.args.label.now in
     let tau = travel_time c.args.times.now in
-    let same : c.label_after-next.result ≡ next_label tau task label c.in-Some.stop = c.label_after-next.ensures ∙ ap (λ n. label_at task label c.in-Some.stop n) c.in-Some-second_of.ensures.1 in
-    let small = (next_small (point_count c.args.times.now) tau c.args.times.now.table.times task c.requires.valid label c.label_after-next.result c.in-Some.stop c.requires.small c.in-Some.ensures.next c.in-Some-second_of.ensures.0 same).0 in
+    let same : c.label_after-next.result ≡ next_label tau task label c.in-Some.stop = c.label_after-next.ensures ∙
+    ap (λ n. label_at task label c.in-Some.stop n) c.in-Some-second_of.ensures.1 in
+    let small = (next_small (point_count c.args.times.now) tau c.args.times.now.table.times task c.requires.valid label c.label_after-next.result c.in-Some.stop
+    c.requires.small c.in-Some.ensures.next c.in-Some-second_of.ensures.0 same).0 in
     record { valid = c.requires.valid; place = small.place; free = omega (arith, small.free) }
 
 pub returns-in_default-look_ahead : goal.returns-in_default-look_ahead
@@ -47,7 +50,8 @@ returns-in_default-look_ahead c =
     let points = point_count c.args.times.now in
     let best = route_of c.args.best.now in
     let next = c.label_after-next.result in
-    tried_next points tau c.args.times.now.table.times c.args.task.now c.requires.valid c.args.label.now next c.args.person _ best c.in-Some.stop c.in-Some.ensures c.in-Some-second_of.ensures.1 c.label_after-next.ensures
+    tried_next points tau c.args.times.now.table.times c.args.task.now c.requires.valid c.args.label.now next c.args.person _ best c.in-Some.stop
+    c.in-Some.ensures c.in-Some-second_of.ensures.1 c.label_after-next.ensures
     (exhausted_none points tau c.args.times.now.table.times c.args.task.now c.requires.valid next best c.in_default-look_ahead.ensures.none)
 
 pub returns-then-not-is_less : goal.returns-then-not-is_less
@@ -56,8 +60,10 @@ returns-then-not-is_less c =
     let points = point_count c.args.times.now in
     let best = route_of c.args.best.now in
     let next = c.label_after-next.result in
-    tried_next points tau c.args.times.now.table.times c.args.task.now c.requires.valid c.args.label.now next c.args.person _ best c.in-Some.stop c.in-Some.ensures c.in-Some-second_of.ensures.1 c.label_after-next.ensures
-    (exhausted_bound points tau c.args.times.now.table.times c.args.task.now c.requires.valid next best c.in-Some-look_ahead.ahead c.in-Some-look_ahead.ensures.bound (c.is_less.ensures.0 c.if-not-is_less.true))
+    tried_next points tau c.args.times.now.table.times c.args.task.now c.requires.valid c.args.label.now next c.args.person _ best c.in-Some.stop
+    c.in-Some.ensures c.in-Some-second_of.ensures.1 c.label_after-next.ensures
+    (exhausted_bound points tau c.args.times.now.table.times c.args.task.now c.requires.valid next best c.in-Some-look_ahead.ahead
+    c.in-Some-look_ahead.ensures.bound (c.is_less.ensures.0 c.if-not-is_less.true))
 
 pub returns-then-dominates : goal.returns-then-dominates
 returns-then-dominates c =
@@ -65,8 +71,10 @@ returns-then-dominates c =
     let points = point_count c.args.times.now in
     let best = route_of c.args.best.now in
     let next = c.label_after-next.result in
-    tried_next points tau c.args.times.now.table.times c.args.task.now c.requires.valid c.args.label.now next c.args.person _ best c.in-Some.stop c.in-Some.ensures c.in-Some-second_of.ensures.1 c.label_after-next.ensures
-    (exhausted_dominated points tau c.args.times.now.table.times c.args.task.now c.requires.valid next best (labels_of c.args.store.now) (c.dominates.ensures c.if-dominates.true) c.requires.settled)
+    tried_next points tau c.args.times.now.table.times c.args.task.now c.requires.valid c.args.label.now next c.args.person _ best c.in-Some.stop
+    c.in-Some.ensures c.in-Some-second_of.ensures.1 c.label_after-next.ensures
+    (exhausted_dominated points tau c.args.times.now.table.times c.args.task.now c.requires.valid next best (labels_of c.args.store.now)
+    (c.dominates.ensures c.if-dominates.true) c.requires.settled)
 
 pub returns : goal.returns
 returns c =
@@ -79,8 +87,10 @@ returns c =
 
 pub overflow_add-next : goal.overflow_add-next
 overflow_add-next c =
-    let same : c.label_after-next.result ≡ next_label (travel_time c.args.times.now) c.args.task.now c.args.label.now c.in-Some.stop = c.label_after-next.ensures ∙ ap (λ n. label_at c.args.task.now c.args.label.now c.in-Some.stop n) c.in-Some-second_of.ensures.1 in
-    let small = (next_small (point_count c.args.times.now) (travel_time c.args.times.now) c.args.times.now.table.times c.args.task.now c.requires.valid c.args.label.now c.label_after-next.result c.in-Some.stop c.requires.small c.in-Some.ensures.next c.in-Some-second_of.ensures.0 same).0 in
+    let same : c.label_after-next.result ≡ next_label (travel_time c.args.times.now) c.args.task.now c.args.label.now c.in-Some.stop =
+    c.label_after-next.ensures ∙ ap (λ n. label_at c.args.task.now c.args.label.now c.in-Some.stop n) c.in-Some-second_of.ensures.1 in
+    let small = (next_small (point_count c.args.times.now) (travel_time c.args.times.now) c.args.times.now.table.times c.args.task.now c.requires.valid
+    c.args.label.now c.label_after-next.result c.in-Some.stop c.requires.small c.in-Some.ensures.next c.in-Some-second_of.ensures.0 same).0 in
     record { fits = omega (arith, small.delay, c.in-Some-look_ahead.ensures.small) }
 
 pub dominates-requires-clause-placed : goal.dominates-requires-clause-placed
@@ -88,6 +98,8 @@ dominates-requires-clause-placed c = λ k d h. (c.requires.settled k d h).placed
 
 pub dominates-requires-clause-place : goal.dominates-requires-clause-place
 dominates-requires-clause-place c =
-    let same : c.label_after-next.result ≡ next_label (travel_time c.args.times.now) c.args.task.now c.args.label.now c.in-Some.stop = c.label_after-next.ensures ∙ ap (λ n. label_at c.args.task.now c.args.label.now c.in-Some.stop n) c.in-Some-second_of.ensures.1 in
-    let small = (next_small (point_count c.args.times.now) (travel_time c.args.times.now) c.args.times.now.table.times c.args.task.now c.requires.valid c.args.label.now c.label_after-next.result c.in-Some.stop c.requires.small c.in-Some.ensures.next c.in-Some-second_of.ensures.0 same).0 in
+    let same : c.label_after-next.result ≡ next_label (travel_time c.args.times.now) c.args.task.now c.args.label.now c.in-Some.stop =
+    c.label_after-next.ensures ∙ ap (λ n. label_at c.args.task.now c.args.label.now c.in-Some.stop n) c.in-Some-second_of.ensures.1 in
+    let small = (next_small (point_count c.args.times.now) (travel_time c.args.times.now) c.args.times.now.table.times c.args.task.now c.requires.valid
+    c.args.label.now c.label_after-next.result c.in-Some.stop c.requires.small c.in-Some.ensures.next c.in-Some-second_of.ensures.0 same).0 in
     small.place

@@ -7,7 +7,8 @@ pub record NextTried (tau : ℕ → ℕ → ℕ) (task : Task) (done : ℕ) (pat
   pub same : now ≡ path
   pub found : IsFound tau task best
   pub kept : StaysGood first best
-  pub tried : (s : Stop) → IsNextStop (length task.riders.items) (length task.aboard.items) done s → bit_of s < k → AllTried tau task (with_stop done s) (path ++ s ∷ []) best
+  pub tried : (s : Stop) → IsNextStop (length task.riders.items) (length task.aboard.items) done s → bit_of s < k →
+      AllTried tau task (with_stop done s) (path ++ s ∷ []) best
 
 abbrev pub invariant-loop-k : goal.invariant-loop-k
 invariant-loop-k l = NextTried (travel_time l.times) l.task l.done l.fn.path.items l.path.items l.fn.best l.best l.k

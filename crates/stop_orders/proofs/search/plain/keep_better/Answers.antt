@@ -19,7 +19,8 @@ returns-then-is_better-clause-found c = rw c.copy_of_stops.ensures (c.serves.ens
 
 pub returns-then-is_better-clause-kept : goal.returns-then-is_better-clause-kept
 returns-then-is_better-clause-kept c =
-    good_better c.args.best.now (record { stops = c.copy_of_stops.result; delay = c.in-Some.delay }) (λ n. true≢false (sym c.if-is_better.true ∙ c.is_better.ensures.1 n))
+    good_better c.args.best.now (record { stops = c.copy_of_stops.result; delay = c.in-Some.delay })
+    (λ n. true≢false (sym c.if-is_better.true ∙ c.is_better.ensures.1 n))
 
 pub returns-then-is_better-clause-tried : goal.returns-then-is_better-clause-tried
 returns-then-is_better-clause-tried c = λ _. omega (arith, c.in-Some.ensures.1)

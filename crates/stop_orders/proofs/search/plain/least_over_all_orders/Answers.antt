@@ -23,7 +23,8 @@ none_of tau task (Some route) h = tt
 
 pub try_rests-requires-clause-orders : goal.try_rests-requires-clause-orders
 try_rests-requires-clause-orders c =
-    subst (λ d. MakesOrders c.args.task.now d c.new-path.result.items) (sym c.none.ensures) (subst (λ p. MakesOrders c.args.task.now 0 p) (sym c.new-path.ensures) (MakesOrders-none c.args.task.now))
+    subst (λ d. MakesOrders c.args.task.now d c.new-path.result.items) (sym c.none.ensures)
+    (subst (λ p. MakesOrders c.args.task.now 0 p) (sym c.new-path.ensures) (MakesOrders-none c.args.task.now))
 
 pub try_rests-requires-clause-room : goal.try_rests-requires-clause-room
 try_rests-requires-clause-room c =

@@ -27,11 +27,13 @@ returns-in-Pick c =
 pub returns-in-Drop : goal.returns-in-Drop
 returns-in-Drop c =
     let known = subst (λ s. IsKnown (length c.args.task.now.riders.items) (length c.args.task.now.aboard.items) s) c.in-Drop.is c.requires in
-    let leg = leg_read c.args.task.now.riders.items c.deref-in-Drop.result.now c.in-Drop.i c.index-deref-i-in-Drop.result c.deref-in-Drop.ensures.0 c.index-deref-i-in-Drop.is known in
+    let leg = leg_read c.args.task.now.riders.items c.deref-in-Drop.result.now c.in-Drop.i c.index-deref-i-in-Drop.result c.deref-in-Drop.ensures.0
+    c.index-deref-i-in-Drop.is known in
     rw c.in-Drop.is (ap (λ l. Dropoff l.destination l.latest_dropoff l.ideal l.party) leg)
 
 pub returns-in-Alight : goal.returns-in-Alight
 returns-in-Alight c =
     let known = subst (λ s. IsKnown (length c.args.task.now.riders.items) (length c.args.task.now.aboard.items) s) c.in-Alight.is c.requires in
-    let leg = leg_read c.args.task.now.aboard.items c.deref-in-Alight.result.now c.in-Alight.j c.index-deref-j.result c.deref-in-Alight.ensures.0 c.index-deref-j.is known in
+    let leg = leg_read c.args.task.now.aboard.items c.deref-in-Alight.result.now c.in-Alight.j c.index-deref-j.result c.deref-in-Alight.ensures.0
+    c.index-deref-j.is known in
     rw c.in-Alight.is (ap (λ l. Dropoff l.destination l.latest_dropoff l.ideal l.party) leg)

@@ -11,10 +11,17 @@ loop-leg-preserved c =
     let i = c.loop-leg.leg-index in
     let legs = c.args.legs.now in
     let leg = c.leg-item.result in
-    c.push.ensures.items ∙ ap (λ xs. xs ++ without_latest leg ∷ []) c.loop-leg.invariant ∙ ap (λ l. map without_latest (take i legs) ++ without_latest l ∷ []) c.leg-item.is ∙ sym (map_more without_latest legs i leg c.loop-leg-test.true)
+    c.push.ensures.items ∙ ap (λ xs. xs ++ without_latest leg ∷ []) c.loop-leg.invariant ∙
+    ap (λ l. map without_latest (take i legs) ++ without_latest l ∷ []) c.leg-item.is ∙ sym (map_more without_latest legs i leg c.loop-leg-test.true)
 
 pub push-requires : goal.push-requires
 push-requires c =
     let so_far = ap length c.loop-leg.invariant ∙ length-map (take c.loop-leg.leg-index c.args.legs.now) without_latest in
-    let room : length c.loop-leg.unlimited.items < 10 = omega (arith, so_far, length-take c.loop-leg.leg-index c.args.legs.now, c.loop-leg-test.true, c.requires) in
+    let room : length c.loop-leg.unlimited.items < 10 = omega (
+      arith,
+      so_far,
+      length-take c.loop-leg.leg-index c.args.legs.now,
+      c.loop-leg-test.true,
+      c.requires,
+    ) in
     (omega arith, room)

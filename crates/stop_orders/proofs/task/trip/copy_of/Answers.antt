@@ -9,4 +9,5 @@ pub loop-leg-preserved : goal.loop-leg-preserved
 loop-leg-preserved c =
     let i = c.loop-leg.leg-index in
     let leg = c.leg-item.result in
-    c.push.ensures.items ∙ ap (λ xs. xs ++ leg ∷ []) c.loop-leg.invariant ∙ ap (λ l. take i c.args.legs.now ++ l ∷ []) c.leg-item.is ∙ sym (take_more c.args.legs.now i leg c.loop-leg-test.true)
+    c.push.ensures.items ∙ ap (λ xs. xs ++ leg ∷ []) c.loop-leg.invariant ∙ ap (λ l. take i c.args.legs.now ++ l ∷ []) c.leg-item.is ∙
+    sym (take_more c.args.legs.now i leg c.loop-leg-test.true)

@@ -14,13 +14,15 @@ loop-node-init c = record {
 pub copy_hops-requires-clause-few : goal.copy_hops-requires-clause-few
 copy_hops-requires-clause-few c =
     let roads = c.args.network.now in
-    rw c.arcs_from.ensures (few_nodes roads.arcs (length roads.nodes) c.loop-node.node c.loop-node.invariant.network.arcs c.loop-node.invariant.network.few_nodes)
+    rw c.arcs_from.ensures (few_nodes roads.arcs (length roads.nodes) c.loop-node.node c.loop-node.invariant.network.arcs
+    c.loop-node.invariant.network.few_nodes)
 
 pub copy_hops-requires-clause-none : goal.copy_hops-requires-clause-none
 copy_hops-requires-clause-none c =
     let inv = c.loop-node.invariant in
     let within : c.loop-node.node < length c.loop-node.hops.items = omega (arith, inv.each, c.loop-node-test.true, c.node_count-nodes.ensures.count) in
-    c.index_mut.ensures.value ∙ sym (get_or_default c.loop-node.hops.items c.loop-node.node [] c.index_mut.result.now within) ∙ inv.rest c.loop-node.node (omega arith)
+    c.index_mut.ensures.value ∙ sym (get_or_default c.loop-node.hops.items c.loop-node.node [] c.index_mut.result.now within) ∙
+    inv.rest c.loop-node.node (omega arith)
 
 pub loop-node-preserved : goal.loop-node-preserved
 loop-node-preserved c =
@@ -42,7 +44,12 @@ loop-node-preserved c =
 pub returns : goal.returns
 returns c =
     let roads = c.args.network.now in
-    let ended : c.loop-node.node ≡ length c.args.network.now.nodes = omega (arith, c.loop-node-test.false, c.loop-node.auto.node-end, c.node_count-nodes.ensures.count) in
+    let ended : c.loop-node.node ≡ length c.args.network.now.nodes = omega (
+      arith,
+      c.loop-node-test.false,
+      c.loop-node.auto.node-end,
+      c.node_count-nodes.ensures.count,
+    ) in
     record {
       each = c.loop-node.invariant.each;
       placed = λ node h. leaving_hops roads.arcs node _ (c.loop-node.invariant.placed node (omega (arith, h, ended)));

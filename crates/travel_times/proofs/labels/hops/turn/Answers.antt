@@ -10,4 +10,5 @@ loop-hop-preserved c =
     let inside : c.loop-hop.hop-index < length c.args.leaving.now = c.loop-hop-test.true in
     let end = c.requires.ends i none inside in
     rw c.in_ok-push.ensures
-    (turn_more c.args.node leaving i c.args.hops.now.items c.loop-hop.hops.items (get_or leaving i none).to c.index_mut.result.now c.of.result inside refl c.of.ensures (omega (arith, end, inv.each)) c.index_mut.ensures.value inv)
+    (turn_more c.args.node leaving i c.args.hops.now.items c.loop-hop.hops.items (get_or leaving i none).to c.index_mut.result.now c.of.result inside refl
+    c.of.ensures (omega (arith, end, inv.each)) c.index_mut.ensures.value inv)

@@ -14,5 +14,6 @@ loop-place-preserved c =
     record {
       even = inv.even;
       size = length-set cells i c.time.result ∙ inv.size;
-      times = λ roads of. set_more (λ k x. IsTimeBetween roads.arcs (slice_index points ((start + k) / n)) (slice_index points ((start + k) % n)) x) cells i c.time.result (omega (arith, c.loop-place-test.true, inv.size)) (inv.times roads of) (c.time.ensures roads of);
+      times = λ roads of. set_more (λ k x. IsTimeBetween roads.arcs (slice_index points ((start + k) / n)) (slice_index points ((start + k) % n)) x) cells i
+          c.time.result (omega (arith, c.loop-place-test.true, inv.size)) (inv.times roads of) (c.time.ensures roads of);
     }

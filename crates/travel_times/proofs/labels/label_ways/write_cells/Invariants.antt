@@ -6,5 +6,6 @@ abbrev pub invariant-loop-place : goal.invariant-loop-place
 invariant-loop-place l = record {
   even : length l.labels.backward ≡ length l.labels.forward;
   size : length l.cells ≡ length l.fn.cells;
-  times : (roads : Roads) → AreLabelsOf roads l.labels → (k : ℕ) → k < l.place → IsTimeBetween roads.arcs (slice_index l.points ((l.start + k) / length l.points)) (slice_index l.points ((l.start + k) % length l.points)) (slice_index l.cells k);
+  times : (roads : Roads) → AreLabelsOf roads l.labels → (k : ℕ) → k < l.place → IsTimeBetween roads.arcs
+      (slice_index l.points ((l.start + k) / length l.points)) (slice_index l.points ((l.start + k) % length l.points)) (slice_index l.cells k);
 }

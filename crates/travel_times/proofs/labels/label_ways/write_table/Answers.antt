@@ -14,4 +14,5 @@ returns g c = λ roads of k lt.
     let at = (c.par_chunks_mut_for_each.ensures.by_index k 0 (omega (arith, lt, c.par_chunks_mut_for_each.auto.s))).1 in
     let time = at.call.1 roads of at.offset (omega (arith, at.offset_in_chunk, at.call.0)) in
     subst (λ x. IsTimeBetween roads.arcs (slice_index points ((0 + k) / n)) (slice_index points ((0 + k) % n)) x) at.new_element
-    (subst (λ x. IsTimeBetween roads.arcs (slice_index points (x / n)) (slice_index points (x % n)) (slice_index at.after_call.now at.offset)) (let e = at.start_plus_offset in omega (arith, e)) time)
+    (subst (λ x. IsTimeBetween roads.arcs (slice_index points (x / n)) (slice_index points (x % n)) (slice_index at.after_call.now at.offset))
+    (let e = at.start_plus_offset in omega (arith, e)) time)

@@ -20,14 +20,27 @@ count_reaching-requires-clause-ends c =
 pub count_reaching-requires-clause-few : goal.count_reaching-requires-clause-few
 count_reaching-requires-clause-few c =
     let arcs = c.args.network.now.arcs in
-    omega (arith, leaving_few arcs c.loop-node.node, c.loop-node.invariant.network.few_arcs, ap length c.arcs_from.ensures ∙ length-map (leaving c.loop-node.node arcs) hop_of)
+    omega (
+      arith,
+      leaving_few arcs c.loop-node.node,
+      c.loop-node.invariant.network.few_arcs,
+      ap length c.arcs_from.ensures ∙
+          length-map (leaving c.loop-node.node arcs) hop_of,
+    )
 
 pub count_reaching-requires-clause-room : goal.count_reaching-requires-clause-room
 count_reaching-requires-clause-room c =
     let arcs = c.args.network.now.arcs in
     rw (c.deref_mut.ensures.value) (λ node d h.
     let within : node < length c.args.network.now.nodes = let e = c.loop-node.invariant.each in omega (arith, e, h) in
-    rw (get_or_default c.loop-node.degrees.items node d 0 h) (omega (arith, c.loop-node.invariant.counted node within, leaving_few arcs node, reaching_few arcs c.loop-node.node node, c.loop-node.invariant.network.few_arcs)))
+    rw (get_or_default c.loop-node.degrees.items node d 0 h)
+    (omega (
+      arith,
+      c.loop-node.invariant.counted node within,
+      leaving_few arcs node,
+      reaching_few arcs c.loop-node.node node,
+      c.loop-node.invariant.network.few_arcs,
+    )))
 
 pub loop-node-preserved : goal.loop-node-preserved
 loop-node-preserved c =
@@ -36,10 +49,16 @@ loop-node-preserved c =
     let k = c.loop-node.node in
     let new = c.count_reaching.new.counts in
     let value = c.deref_mut.ensures.value in
-    let long : length c.count_reaching.new.counts ≡ c.loop-node.degrees.len = omega (arith, ap length value, c.count_reaching.auto.counts, c.loop-node.degrees.ok.0) in
+    let long : length c.count_reaching.new.counts ≡ c.loop-node.degrees.len = omega (
+      arith,
+      ap length value,
+      c.count_reaching.auto.counts,
+      c.loop-node.degrees.ok.0,
+    ) in
     record {
       network = c.loop-node.invariant.network;
-      each = rw (take_at new (drop (length new) c.loop-node.degrees.items) c.loop-node.degrees.len long) (omega (arith, ap length value, c.count_reaching.auto.counts, c.loop-node.invariant.each));
+      each = rw (take_at new (drop (length new) c.loop-node.degrees.items) c.loop-node.degrees.len long)
+          (omega (arith, ap length value, c.count_reaching.auto.counts, c.loop-node.invariant.each));
       counted = λ node h. rw (take_at new (drop (length new) c.loop-node.degrees.items) c.loop-node.degrees.len long)
           (let read = (rw (value, c.arcs_from.ensures) at c.count_reaching.ensures) node (omega (arith, c.loop-node.invariant.each, h)) in
           omega (arith, read, c.loop-node.invariant.counted node h, reaching_more arcs k node));
@@ -49,5 +68,10 @@ pub returns-clause-degrees : goal.returns-clause-degrees
 returns-clause-degrees c = λ node h.
     let arcs = c.args.network.now.arcs in
     let n = length c.args.network.now.nodes in
-    let ended : c.loop-node.node ≡ length c.args.network.now.nodes = omega (arith, c.loop-node-test.false, c.loop-node.auto.node-end, c.node_count-nodes.ensures.count) in
+    let ended : c.loop-node.node ≡ length c.args.network.now.nodes = omega (
+      arith,
+      c.loop-node-test.false,
+      c.loop-node.auto.node-end,
+      c.node_count-nodes.ensures.count,
+    ) in
     c.loop-node.invariant.counted node h ∙ rw ended (degree_is arcs n node c.loop-node.invariant.network.arcs)

@@ -20,8 +20,12 @@ returns c =
     let sorted = c.sort_unstable.new.self.items in
     let each = c.in_ok-degrees.ensures.each in
     let read = ap length c.deref.ensures.value in
-    let keys : (node : ℕ) → node < length c.args.network.now.nodes → get_or c.in_ok-keys.keys.items node (0, 0) ≡ (1000000 - degree c.args.network.now.arcs node, node) = λ node h.
-    (rw c.deref.ensures.value at c.in_ok-keys.ensures.1) node (omega (arith, h, each)) ∙ ap (λ (d : ℕ). (1000000 - d, node)) (c.in_ok-degrees.ensures.degrees node h) in
-    let order : IsNodeOrder roads.arcs n (map (λ (key : ℕ × ℕ). key.1) sorted) = pair_order roads.arcs n c.in_ok-keys.keys.items sorted c.node_count-nodes.ensures.kept.few_nodes (c.in_ok-keys.ensures.0 ∙ read ∙ each) keys c.sort_unstable.ensures.permutation c.sort_unstable.ensures.sorted in
+    let keys : (node : ℕ) → node < length c.args.network.now.nodes → get_or c.in_ok-keys.keys.items node (0, 0) ≡
+    (1000000 - degree c.args.network.now.arcs node, node) = λ node h.
+    (rw c.deref.ensures.value at c.in_ok-keys.ensures.1) node (omega (arith, h, each)) ∙ ap (λ (d : ℕ). (1000000 - d, node))
+    (c.in_ok-degrees.ensures.degrees node h) in
+    let order : IsNodeOrder roads.arcs n (map (λ (key : ℕ × ℕ). key.1) sorted) = pair_order roads.arcs n c.in_ok-keys.keys.items sorted
+    c.node_count-nodes.ensures.kept.few_nodes (c.in_ok-keys.ensures.0 ∙ read ∙ each) keys c.sort_unstable.ensures.permutation
+    c.sort_unstable.ensures.sorted in
     let nodes = rw c.deref-2.ensures.value at c.in_ok-order.ensures in
     subst (λ (xs : List ℕ). IsNodeOrder roads.arcs n xs) (sym nodes) order

@@ -4,7 +4,8 @@ use Rattle.std.proofs.lemmas.List.{take_all, take_more}
 use Rattle.travel_times.proofs.search.arcs.push_hops.Goals as goal
 
 -- one more element
-appended : {X : Type 0} (new now old xs : List X) (i : ℕ) (x d : X) → new ≡ now ++ x ∷ [] → now ≡ old ++ take i xs → x ≡ get_or xs i d → i < length xs → new ≡ old ++ take (i + 1) xs
+appended : {X : Type 0} (new now old xs : List X) (i : ℕ) (x d : X) → new ≡ now ++ x ∷ [] → now ≡ old ++ take i xs → x ≡ get_or xs i d → i < length xs →
+    new ≡ old ++ take (i + 1) xs
 appended new now old xs i x d pushed so_far is within = pushed ∙ rw (so_far, is, take_more xs i d within, append_assoc) refl
 
 pub loop-hop-preserved : goal.loop-hop-preserved

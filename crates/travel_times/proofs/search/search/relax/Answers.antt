@@ -1,7 +1,12 @@
 use Rattle.std.proofs.Common.{◌≡◌, ◌+◌, ◌<◌, length, get_or, inl, inr, arith}
 use Rattle.travel_times.proofs.Common.{Hop}
 use Rattle.travel_times.proofs.lemmas.search.SearchLemmas.{RelaxesHops-take, RelaxesHops-skip}
-use Rattle.travel_times.proofs.search.search.relax.Goals.{then-through-seconds+then-through-le-LONGEST+in_ok-push, else-through-seconds, else-through-seconds-via-then-through-seconds+else-through-le-LONGEST, else-through-seconds-via-else-through-seconds}
+use Rattle.travel_times.proofs.search.search.relax.Goals.{
+  then-through-seconds+then-through-le-LONGEST+in_ok-push,
+  else-through-seconds,
+  else-through-seconds-via-then-through-seconds+else-through-le-LONGEST,
+  else-through-seconds-via-else-through-seconds,
+}
 use Rattle.travel_times.proofs.search.search.relax.Goals as goal
 
 pub loop-hop-preserved : goal.loop-hop-preserved
@@ -21,7 +26,8 @@ loop-hop-preserved c =
     elim c.if-through-seconds.branch [
       | then-through-seconds+then-through-le-LONGEST+in_ok-push w ↦
           rw (w.seconds-is, w.waiting-is, c.to-to.ensures)
-          (RelaxesHops-take inv {hop = hop} inside read through w.if-through-le-LONGEST.true (rw c.to-to.ensures at w.if-through-seconds.true) within (omega arith))
+          (RelaxesHops-take inv {hop = hop} inside read through w.if-through-le-LONGEST.true (rw c.to-to.ensures at w.if-through-seconds.true) within
+          (omega arith))
       | else-through-seconds w ↦
           rw (w.seconds-is, w.waiting-is)
           (RelaxesHops-skip inv {hop = hop} inside read (elim w.else-through-seconds.branch [

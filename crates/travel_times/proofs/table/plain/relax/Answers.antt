@@ -1,7 +1,12 @@
 use Rattle.std.proofs.Common.{◌≡◌, ◌<◌, length, get_or, inl, inr, refl, arith}
 use Rattle.travel_times.proofs.Common.{get_or_default, Hop}
 use Rattle.travel_times.proofs.lemmas.search.SearchLemmas.{RelaxesHops-take, RelaxesHops-skip}
-use Rattle.travel_times.proofs.table.plain.relax.Goals.{then-through-seconds+then-through-le-LONGEST, else-through-seconds, else-through-seconds-via-then-through-seconds+else-through-le-LONGEST, else-through-seconds-via-else-through-seconds}
+use Rattle.travel_times.proofs.table.plain.relax.Goals.{
+  then-through-seconds+then-through-le-LONGEST,
+  else-through-seconds,
+  else-through-seconds-via-then-through-seconds+else-through-le-LONGEST,
+  else-through-seconds-via-else-through-seconds,
+}
 use Rattle.travel_times.proofs.table.plain.relax.Goals as goal
 
 pub loop-hop-preserved : goal.loop-hop-preserved

@@ -4,7 +4,8 @@ use Rattle.std.proofs.lemmas.List.{take_all}
 use Rattle.travel_times.proofs.table.rows.push_row.Goals as goal
 
 -- what one more element gives
-told_next : {X Y : Type 0} (f : X → Y) (new now old : List Y) (xs : List X) (i : ℕ) (d : X) → new ≡ now ++ f (get_or xs i d) ∷ [] → now ≡ old ++ map f (take i xs) → i < length xs → new ≡ old ++ map f (take (i + 1) xs)
+told_next : {X Y : Type 0} (f : X → Y) (new now old : List Y) (xs : List X) (i : ℕ) (d : X) → new ≡ now ++ f (get_or xs i d) ∷ [] →
+    now ≡ old ++ map f (take i xs) → i < length xs → new ≡ old ++ map f (take (i + 1) xs)
 told_next f new now old xs i d pushed so_far within = pushed ∙ rw (so_far, map_more f xs i d within, append_assoc) refl
 
 pub loop-point-preserved : goal.loop-point-preserved

@@ -6,8 +6,13 @@ use Rattle.travel_times.proofs.table.rows.write_pieces.Goals as goal
 pub par_chunks_mut_for_each-requires-clause-accepts : goal.par_chunks_mut_for_each-requires-clause-accepts
 par_chunks_mut_for_each-requires-clause-accepts g c κs within = λ start p is.
     let some = c.requires.rows in
-    let most = c.requires.most in
-    (c.requires.known, c.requires.few, omega arith, piece_of_chunk (length c.args.points.now) c.args.rows start c.args.cells.now p.now c.requires.rows (omega arith) c.requires.size c.requires.unwritten is)
+    let most = c.requires.most in (
+      c.requires.known,
+      c.requires.few,
+      omega arith,
+      piece_of_chunk (length c.args.points.now) c.args.rows start c.args.cells.now p.now c.requires.rows
+          (omega arith) c.requires.size c.requires.unwritten is,
+    )
 
 pub returns : goal.returns
 returns g c =

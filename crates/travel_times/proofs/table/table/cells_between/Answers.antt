@@ -25,7 +25,8 @@ returns g c =
     let held = c.in_ok-cells.cells.ok.0 in
     let made = ap length c.in_ok-cells.ensures ∙ length-replicate (n * n) never in
     let size = c.write_pieces.ensures.size in
-    let same : take c.in_ok-cells.cells.len (new ++ drop (length new) items) ≡ new = take_at new (drop (length new) items) c.in_ok-cells.cells.len (omega arith) in
+    let same : take c.in_ok-cells.cells.len (new ++ drop (length new) items) ≡ new = take_at new (drop (length new) items) c.in_ok-cells.cells.len
+    (omega arith) in
     let read = c.deref.ensures.value ∙ same in
     let all = subst (λ xs. (i : ℕ) → i < n → slice_index xs (i * n + i) ≡ never → ⊥) read (c.are_computed.ensures c.if-not-are_computed.false) in
     subst (λ xs. AreRows arcs points 0 n xs) (sym same) (rows_of_written arcs points new (rw c.in_ok-arcs.ensures at c.write_pieces.ensures) all)

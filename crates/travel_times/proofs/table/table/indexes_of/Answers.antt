@@ -23,4 +23,5 @@ loop-node-preserved c =
     )
 
 pub returns-clause-indexes : goal.returns-clause-indexes
-returns-clause-indexes c = c.loop-node.invariant.0 ∙ ap (map (index_in c.args.network.now.nodes)) (take_all c.loop-node.node-index c.args.nodes.now (omega arith))
+returns-clause-indexes c = c.loop-node.invariant.0 ∙ ap (map (index_in c.args.network.now.nodes))
+    (take_all c.loop-node.node-index c.args.nodes.now (omega arith))

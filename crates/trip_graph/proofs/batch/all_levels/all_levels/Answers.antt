@@ -4,17 +4,20 @@ use Rattle.trip_graph.proofs.batch.LevelSteps as step
 use Rattle.trip_graph.proofs.Lists.{on_err}
 use Rattle.trip_graph.proofs.batch.all_levels.all_levels.Goals as goal
 
-read_level : (tau : ℕ → ℕ → ℕ) (settled : Settled) (sizes k at : ℕ) (levels : List (List (List TripOf))) (lists : List (List TripOf)) → AreLevels tau settled sizes levels → k < sizes → at ≡ k
+read_level : (tau : ℕ → ℕ → ℕ) (settled : Settled) (sizes k at : ℕ) (levels : List (List (List TripOf))) (lists : List (List TripOf)) →
+    AreLevels tau settled sizes levels → k < sizes → at ≡ k
     → lists ≡ get_or levels at lists → AreLevelsUpTo tau settled k (length settled.vehicles) lists
 read_level tau settled sizes k at levels lists all lt same is =
-    let e : get_or levels k [] ≡ lists = get_or_default levels k [] lists (let t = all.count in omega arith) ∙ ap (λ (n : ℕ). get_or levels n lists) (sym same) ∙ sym is in
+    let e : get_or levels k [] ≡ lists = get_or_default levels k [] lists (let t = all.count in omega arith) ∙
+    ap (λ (n : ℕ). get_or levels n lists) (sym same) ∙ sym is in
     subst (λ (l : List (List TripOf)). AreLevelsUpTo tau settled k (length settled.vehicles) l) e (all.each k lt)
 
 pub returns-then-total-room : goal.returns-then-total-room
 returns-then-total-room g c =
     let tau = travel_time c.args.growth.now.times.now in
     let first = c.in_ok-total.ensures in
-    step.more_of_first tau c.args.growth.now.settled.now c.args.most c.args.room c.first_level.new.lists.items c.requires.most first.0 (let a = c.if-total-room.true in let b = first.1 in omega arith)
+    step.more_of_first tau c.args.growth.now.settled.now c.args.most c.args.room c.first_level.new.lists.items c.requires.most first.0
+    (let a = c.if-total-room.true in let b = first.1 in omega arith)
 
 pub loop-size-init : goal.loop-size-init
 loop-size-init g c =
@@ -31,7 +34,8 @@ loop-size-init g c =
 
 pub next_level-requires-clause-below : goal.next_level-requires-clause-below
 next_level-requires-clause-below g c κs within =
-    rw c.as_slice-below.ensures (read_level (travel_time c.args.growth.now.times.now) c.args.growth.now.settled.now (c.loop-size.size + 1) c.loop-size.size c.from.result c.loop-size.levels.items c.index.result.now
+    rw c.as_slice-below.ensures (read_level (travel_time c.args.growth.now.times.now) c.args.growth.now.settled.now (c.loop-size.size + 1) c.loop-size.size
+    c.from.result c.loop-size.levels.items c.index.result.now
     c.loop-size.invariant.levels (omega arith) c.from.ensures c.index.ensures)
 
 pub returns-in_default : goal.returns-in_default
@@ -39,7 +43,8 @@ returns-in_default g c =
     let tau = travel_time c.args.growth.now.times.now in
     let inv = c.loop-size.invariant in
     let more = rw c.in_default.is at c.in_ok-more.ensures in
-    step.more_of_next tau c.args.growth.now.settled.now c.args.most c.args.room (c.args.room - c.loop-size.total) (c.loop-size.size + 1) c.loop-size.levels.items c.requires.most inv.levels more
+    step.more_of_next tau c.args.growth.now.settled.now c.args.most c.args.room (c.args.room - c.loop-size.total) (c.loop-size.size + 1)
+    c.loop-size.levels.items c.requires.most inv.levels more
     (let t = c.loop-size-test.true in omega arith) (let h = inv.counted in let f = inv.fits in omega arith)
 
 pub loop-size-preserved : goal.loop-size-preserved

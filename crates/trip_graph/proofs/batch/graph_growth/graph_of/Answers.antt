@@ -34,13 +34,16 @@ loop-vehicle-preserved c =
     c.index-vehicles-vehicle.is ∙ ap (λ (l : List SettledVehicle). get_or l v c.index-vehicles-vehicle.result) c.as_slice-vehicles.ensures
     ∙ get_or_default settled.vehicles v c.index-vehicles-vehicle.result no_vehicle less in
     let from : c.len-from.result ≡ length rows = (let a = c.len-from.ensures in let b = c.loop-vehicle.rows.ok.0 in omega arith) in
-    let found = step.finds_at most tau settled v c.len-from.result c.index-vehicles-vehicle.result c.deref.result.now (rows ++ vehicle_rows levels v) (length rows) c.held_row.result
+    let found = step.finds_at most tau settled v c.len-from.result c.index-vehicles-vehicle.result c.deref.result.now (rows ++ vehicle_rows levels v)
+    (length rows) c.held_row.result
     vehicle (c.deref.ensures.value ∙ items) from c.held_row.ensures in
     record {
       exact = rw items (step.rows_more most tau settled v levels rows c.requires.levels few less inv.exact);
-      order = rw items (more_in_order tau settled v levels rows (step.some_of_levels most tau settled v levels c.requires.levels less) inv.exact.below inv.order);
+      order = rw items (more_in_order tau settled v levels rows (step.some_of_levels most tau settled v levels c.requires.levels less) inv.exact.below
+          inv.order);
       hold = rw (c.in_ok-push.ensures.items, items)
-          (step.hold_more most tau settled (point_count c.args.times.now) v levels rows c.loop-vehicle.held.items c.held_row.result c.requires.levels few less (c.requires.sound.each v less) inv.exact inv.hold found);
+          (step.hold_more most tau settled (point_count c.args.times.now) v levels rows c.loop-vehicle.held.items c.held_row.result c.requires.levels few less
+          (c.requires.sound.each v less) inv.exact inv.hold found);
       total = rw items (step.total_more most tau settled v levels rows c.requires.levels less inv.total);
     }
 
@@ -51,7 +54,8 @@ held_row-requires-clause-few c =
     let v = c.loop-vehicle.vehicle in
     let count = ap length c.as_slice-vehicles.ensures in
     let items = c.in_ok-add_vehicle.ensures in
-    let total = step.total_more c.args.settings.now.trip tau c.args.settled.now v levels c.loop-vehicle.rows.items c.requires.levels (let t = c.loop-vehicle-test.true in omega arith) c.loop-vehicle.invariant.total in
+    let total = step.total_more c.args.settings.now.trip tau c.args.settled.now v levels c.loop-vehicle.rows.items c.requires.levels
+    (let t = c.loop-vehicle-test.true in omega arith) c.loop-vehicle.invariant.total in
     let long = ap length (c.deref.ensures.value ∙ items) in
     omega (arith, c.args.settings.now.in_range.pairs_range.1, c.requires.few, step.total_few levels (v + 1))
 
@@ -69,8 +73,10 @@ memory_of-requires c =
     let end = c.loop-vehicle.auto.vehicle-end in
     let stop = c.loop-vehicle-test.false in
     let e : c.loop-vehicle.vehicle ≡ length settled.vehicles = omega arith in
-    faults.memory_only most (point_count c.args.times.now) tau settled c.sub_trips_are_servable.ensures.servable c.delays_are_small.ensures (let r = c.args.settings.now.in_range.trip_range.1 in omega arith) c.args.times.now.table.times c.requires.sound
-    (record { vehicles = vehicles; riders = riders; penalty = c.args.settings.now.penalty; rows = rows; held = held }) count (ap length c.as_slice-riders.ensures)
+    faults.memory_only most (point_count c.args.times.now) tau settled c.sub_trips_are_servable.ensures.servable c.delays_are_small.ensures
+    (let r = c.args.settings.now.in_range.trip_range.1 in omega arith) c.args.times.now.table.times c.requires.sound
+    (record { vehicles = vehicles; riders = riders; penalty = c.args.settings.now.penalty; rows = rows; held = held }) count
+    (ap length c.as_slice-riders.ensures)
     (subst (λ (n : ℕ). AreRowsUpTo most tau settled n rows) e inv.exact)
     (subst (λ (n : ℕ). HoldRows settled n rows held) e inv.hold)
     inv.order c.in-Err.fault c.in-Err.ensures.fault
@@ -99,7 +105,8 @@ returns-in-Ok c =
     let end = c.loop-vehicle.auto.vehicle-end in
     let stop = c.loop-vehicle-test.false in
     let e : c.loop-vehicle.vehicle ≡ length settled.vehicles = omega arith in
-    step.graph_right settings tau settled c.in-Ok.graph (length c.as_slice-vehicles.result.now) (length c.as_slice-riders.result.now) rows c.loop-vehicle.held.items
+    step.graph_right settings tau settled c.in-Ok.graph (length c.as_slice-vehicles.result.now) (length c.as_slice-riders.result.now) rows
+    c.loop-vehicle.held.items
     c.in-Ok.ensures.value c.in-Ok.ensures.good count (ap length c.as_slice-riders.ensures)
     (subst (λ (n : ℕ). AreRowsUpTo settings.trip tau settled n rows) e inv.exact)
     (subst (λ (n : ℕ). HoldRows settled n rows c.loop-vehicle.held.items) e inv.hold)
@@ -112,4 +119,10 @@ pub returns-in_err-push : goal.returns-in_err-push
 returns-in_err-push c = on_err c.from_residual-in_err-push.result _ c.from_residual-in_err-push.ensures.0
 
 pub held_row-requires-clause-from : goal.held_row-requires-clause-from
-held_row-requires-clause-from c = omega (arith, c.len-from.ensures, c.loop-vehicle.rows.ok.0, ap length (c.deref.ensures.value ∙ c.in_ok-add_vehicle.ensures), length-append c.loop-vehicle.rows.items (vehicle_rows c.args.levels.now c.loop-vehicle.vehicle))
+held_row-requires-clause-from c = omega (
+  arith,
+  c.len-from.ensures,
+  c.loop-vehicle.rows.ok.0,
+  ap length (c.deref.ensures.value ∙ c.in_ok-add_vehicle.ensures),
+  length-append c.loop-vehicle.rows.items (vehicle_rows c.args.levels.now c.loop-vehicle.vehicle),
+)

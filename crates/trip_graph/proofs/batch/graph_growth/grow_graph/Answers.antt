@@ -9,14 +9,17 @@ singles_of : (tau : ℕ → ℕ → ℕ) (settled : Settled) (sizes : ℕ) (leve
     → AreLevels tau settled sizes levels → own ≡ get_or levels 1 own → singles ≡ own → AreLevelsUpTo tau settled 1 (length settled.vehicles) singles
 singles_of tau settled sizes levels own singles some all read same =
     let lt : 1 < length levels = (let c = all.count in omega arith) in
-    subst (λ (l : List (List TripOf)). AreLevelsUpTo tau settled 1 (length settled.vehicles) l) (get_or_default levels 1 [] own lt ∙ sym read ∙ sym same) (all.each 1 some)
+    subst (λ (l : List (List TripOf)). AreLevelsUpTo tau settled 1 (length settled.vehicles) l) (get_or_default levels 1 [] own lt ∙ sym read ∙ sym same)
+    (all.each 1 some)
 
 pub rider_rider-requires : goal.rider_rider-requires
-rider_rider-requires g c = c.sound_for_larger.ensures c.args.settings.now.trip 6 (point_count c.args.times.now) (travel_time c.args.times.now) c.args.settled.now c.args.settings.now.in_range.trip_range.1 c.requires
+rider_rider-requires g c = c.sound_for_larger.ensures c.args.settings.now.trip 6 (point_count c.args.times.now) (travel_time c.args.times.now)
+    c.args.settled.now c.args.settings.now.in_range.trip_range.1 c.requires
 
 pub all_levels-requires-clause-can : goal.all_levels-requires-clause-can
 all_levels-requires-clause-can g c κs within = record {
-  sound = c.sound_for_larger.ensures c.args.settings.now.trip 6 (point_count c.args.times.now) (travel_time c.args.times.now) c.args.settled.now c.args.settings.now.in_range.trip_range.1 c.requires;
+  sound = c.sound_for_larger.ensures c.args.settings.now.trip 6 (point_count c.args.times.now) (travel_time c.args.times.now) c.args.settled.now
+      c.args.settings.now.in_range.trip_range.1 c.requires;
   pairs = search rules;
 }
 

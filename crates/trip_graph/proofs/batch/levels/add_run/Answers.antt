@@ -12,16 +12,22 @@ skip_to-requires-clause-on c =
     let run = c.args.run.now in
     let inv = c.loop-level.invariant in
     let gives = c.into_iter-level-iterator.ensures.into_iter_gives in
-    let t = YieldsList-turn (YieldsList-from_vec {s = c.into_iter-level-iterator.result} c.args.levels.items gives.0 (gives.1 ∙ c.args.levels.ok.0)) c.loop-level.yielded c.loop-level.level-iterator c.loop-level.yielded_by c.next.result c.next.new.self c.in-Some.level c.in-Some.is c.next.ensures.steps in
-    (next_first run.below.now (length c.loop-level.lists.items) c.loop-level.number run.vehicles.now c.args.end inv.next (omega (arith, t.0, c.requires.levels.count, inv.number))).on
+    let t = YieldsList-turn (YieldsList-from_vec {s = c.into_iter-level-iterator.result} c.args.levels.items gives.0 (gives.1 ∙ c.args.levels.ok.0))
+    c.loop-level.yielded c.loop-level.level-iterator c.loop-level.yielded_by c.next.result c.next.new.self c.in-Some.level c.in-Some.is
+    c.next.ensures.steps in
+    (next_first run.below.now (length c.loop-level.lists.items) c.loop-level.number run.vehicles.now c.args.end inv.next
+    (omega (arith, t.0, c.requires.levels.count, inv.number))).on
 
 pub skip_to-requires-clause-empty : goal.skip_to-requires-clause-empty
 skip_to-requires-clause-empty c =
     let run = c.args.run.now in
     let inv = c.loop-level.invariant in
     let gives = c.into_iter-level-iterator.ensures.into_iter_gives in
-    let t = YieldsList-turn (YieldsList-from_vec {s = c.into_iter-level-iterator.result} c.args.levels.items gives.0 (gives.1 ∙ c.args.levels.ok.0)) c.loop-level.yielded c.loop-level.level-iterator c.loop-level.yielded_by c.next.result c.next.new.self c.in-Some.level c.in-Some.is c.next.ensures.steps in
-    (next_first run.below.now (length c.loop-level.lists.items) c.loop-level.number run.vehicles.now c.args.end inv.next (omega (arith, t.0, c.requires.levels.count, inv.number))).empty
+    let t = YieldsList-turn (YieldsList-from_vec {s = c.into_iter-level-iterator.result} c.args.levels.items gives.0 (gives.1 ∙ c.args.levels.ok.0))
+    c.loop-level.yielded c.loop-level.level-iterator c.loop-level.yielded_by c.next.result c.next.new.self c.in-Some.level c.in-Some.is
+    c.next.ensures.steps in
+    (next_first run.below.now (length c.loop-level.lists.items) c.loop-level.number run.vehicles.now c.args.end inv.next
+    (omega (arith, t.0, c.requires.levels.count, inv.number))).empty
 
 pub returns-in_default : goal.returns-in_default
 returns-in_default c =
@@ -30,17 +36,22 @@ returns-in_default c =
     let settled = batch_of run.growth.now in
     let inv = c.loop-level.invariant in
     let gives = c.into_iter-level-iterator.ensures.into_iter_gives in
-    let t = YieldsList-turn (YieldsList-from_vec {s = c.into_iter-level-iterator.result} c.args.levels.items gives.0 (gives.1 ∙ c.args.levels.ok.0)) c.loop-level.yielded c.loop-level.level-iterator c.loop-level.yielded_by c.next.result c.next.new.self c.in-Some.level c.in-Some.is c.next.ensures.steps in
+    let t = YieldsList-turn (YieldsList-from_vec {s = c.into_iter-level-iterator.result} c.args.levels.items gives.0 (gives.1 ∙ c.args.levels.ok.0))
+    c.loop-level.yielded c.loop-level.level-iterator c.loop-level.yielded_by c.next.result c.next.new.self c.in-Some.level c.in-Some.is
+    c.next.ensures.steps in
     let k = c.loop-level.number in
     let v : ℕ = get_or run.vehicles.now k 0 in
-    let own : IsLevelOf tau settled v (run.size + 1) (run.room - run.found) c.in-Some.level = step.own_level tau settled (run.size + 1) (run.room - run.found) k (length c.loop-level.yielded) run.vehicles.now c.args.levels.items c.in-Some.level c.requires.levels inv.number t in
+    let own : IsLevelOf tau settled v (run.size + 1) (run.room - run.found) c.in-Some.level =
+    step.own_level tau settled (run.size + 1) (run.room - run.found) k (length c.loop-level.yielded) run.vehicles.now c.args.levels.items c.in-Some.level
+    c.requires.levels inv.number t in
     let number = inv.number in
     let count = c.requires.levels.count in
     let here = t.0 in
     let known = c.requires.vehicles k (omega arith) in
     let total = c.requires.can.rows.total in
     let lt : v < length settled.vehicles = omega arith in
-    step.more_than_left tau settled (run.size + 1) run.room (run.room - run.found) v c.skip_to.new.lists.items c.in_ok-skip_to.ensures.level (rw c.in_default.is at own) lt (omega (arith, c.requires.fits, inv.grows, inv.counted, c.in_ok-skip_to.ensures.total))
+    step.more_than_left tau settled (run.size + 1) run.room (run.room - run.found) v c.skip_to.new.lists.items c.in_ok-skip_to.ensures.level
+    (rw c.in_default.is at own) lt (omega (arith, c.requires.fits, inv.grows, inv.counted, c.in_ok-skip_to.ensures.total))
 
 pub returns-then-more-run : goal.returns-then-more-run
 returns-then-more-run c =
@@ -49,10 +60,14 @@ returns-then-more-run c =
     let settled = batch_of run.growth.now in
     let inv = c.loop-level.invariant in
     let gives = c.into_iter-level-iterator.ensures.into_iter_gives in
-    let t = YieldsList-turn (YieldsList-from_vec {s = c.into_iter-level-iterator.result} c.args.levels.items gives.0 (gives.1 ∙ c.args.levels.ok.0)) c.loop-level.yielded c.loop-level.level-iterator c.loop-level.yielded_by c.next.result c.next.new.self c.in-Some.level c.in-Some.is c.next.ensures.steps in
+    let t = YieldsList-turn (YieldsList-from_vec {s = c.into_iter-level-iterator.result} c.args.levels.items gives.0 (gives.1 ∙ c.args.levels.ok.0))
+    c.loop-level.yielded c.loop-level.level-iterator c.loop-level.yielded_by c.next.result c.next.new.self c.in-Some.level c.in-Some.is
+    c.next.ensures.steps in
     let k = c.loop-level.number in
     let v : ℕ = get_or run.vehicles.now k 0 in
-    let own : IsLevelOf tau settled v (run.size + 1) (run.room - run.found) c.in-Some.level = step.own_level tau settled (run.size + 1) (run.room - run.found) k (length c.loop-level.yielded) run.vehicles.now c.args.levels.items c.in-Some.level c.requires.levels inv.number t in
+    let own : IsLevelOf tau settled v (run.size + 1) (run.room - run.found) c.in-Some.level =
+    step.own_level tau settled (run.size + 1) (run.room - run.found) k (length c.loop-level.yielded) run.vehicles.now c.args.levels.items c.in-Some.level
+    c.requires.levels inv.number t in
     let number = inv.number in
     let count = c.requires.levels.count in
     let here = t.0 in
@@ -61,7 +76,8 @@ returns-then-more-run c =
     let lt : v < length settled.vehicles = omega arith in
     let trips = c.in-All.trips in
     let all = (rw c.in-All.is at own).0 in
-    step.more_than_room tau settled (run.size + 1) run.room v c.skip_to.new.lists.items trips c.in_ok-skip_to.ensures.level all.some lt (omega (arith, inv.fits, c.if-more-run.true, inv.counted, c.in_ok-skip_to.ensures.total, ap length c.rows.ensures))
+    step.more_than_room tau settled (run.size + 1) run.room v c.skip_to.new.lists.items trips c.in_ok-skip_to.ensures.level all.some lt
+    (omega (arith, inv.fits, c.if-more-run.true, inv.counted, c.in_ok-skip_to.ensures.total, ap length c.rows.ensures))
 
 pub loop-level-preserved : goal.loop-level-preserved
 loop-level-preserved c =
@@ -70,15 +86,20 @@ loop-level-preserved c =
     let settled = batch_of run.growth.now in
     let inv = c.loop-level.invariant in
     let gives = c.into_iter-level-iterator.ensures.into_iter_gives in
-    let t = YieldsList-turn (YieldsList-from_vec {s = c.into_iter-level-iterator.result} c.args.levels.items gives.0 (gives.1 ∙ c.args.levels.ok.0)) c.loop-level.yielded c.loop-level.level-iterator c.loop-level.yielded_by c.next.result c.next.new.self c.in-Some.level c.in-Some.is c.next.ensures.steps in
+    let t = YieldsList-turn (YieldsList-from_vec {s = c.into_iter-level-iterator.result} c.args.levels.items gives.0 (gives.1 ∙ c.args.levels.ok.0))
+    c.loop-level.yielded c.loop-level.level-iterator c.loop-level.yielded_by c.next.result c.next.new.self c.in-Some.level c.in-Some.is
+    c.next.ensures.steps in
     let k = c.loop-level.number in
     let v : ℕ = get_or run.vehicles.now k 0 in
-    let own : IsLevelOf tau settled v (run.size + 1) (run.room - run.found) c.in-Some.level = step.own_level tau settled (run.size + 1) (run.room - run.found) k (length c.loop-level.yielded) run.vehicles.now c.args.levels.items c.in-Some.level c.requires.levels inv.number t in
+    let own : IsLevelOf tau settled v (run.size + 1) (run.room - run.found) c.in-Some.level =
+    step.own_level tau settled (run.size + 1) (run.room - run.found) k (length c.loop-level.yielded) run.vehicles.now c.args.levels.items c.in-Some.level
+    c.requires.levels inv.number t in
     let number = inv.number in
     let count = c.requires.levels.count in
     let here = t.0 in
     let lt : k < length run.vehicles.now = omega arith in
-    let first : IsFirst run.below.now (length c.loop-level.lists.items) v c.args.end (drop (k + 1) run.vehicles.now) = next_first run.below.now (length c.loop-level.lists.items) k run.vehicles.now c.args.end inv.next lt in
+    let first : IsFirst run.below.now (length c.loop-level.lists.items) v c.args.end (drop (k + 1) run.vehicles.now) =
+    next_first run.below.now (length c.loop-level.lists.items) k run.vehicles.now c.args.end inv.next lt in
     let trips = c.in-All.trips in
     let all : AreRowsOfSize tau settled v (run.size + 1) trips = (rw c.in-All.is at own).0 in
     let rows : c.rows.result.now ≡ trips = c.rows.ensures in
@@ -115,15 +136,19 @@ skip_to-requires-2-clause-empty c =
     let run = c.args.run.now in
     let inv = c.loop-level.invariant in
     let gives = c.into_iter-level-iterator.ensures.into_iter_gives in
-    let e = YieldsList-end (YieldsList-from_vec {s = c.into_iter-level-iterator.result} c.args.levels.items gives.0 (gives.1 ∙ c.args.levels.ok.0)) c.loop-level.yielded c.loop-level.level-iterator c.loop-level.yielded_by c.next.result c.next.new.self c.in-None.is c.next.ensures.steps in
-    next_last run.below.now (length c.loop-level.lists.items) c.loop-level.number run.vehicles.now c.args.end inv.next (omega (arith, e.1, c.requires.levels.count, inv.number))
+    let e = YieldsList-end (YieldsList-from_vec {s = c.into_iter-level-iterator.result} c.args.levels.items gives.0 (gives.1 ∙ c.args.levels.ok.0))
+    c.loop-level.yielded c.loop-level.level-iterator c.loop-level.yielded_by c.next.result c.next.new.self c.in-None.is c.next.ensures.steps in
+    next_last run.below.now (length c.loop-level.lists.items) c.loop-level.number run.vehicles.now c.args.end inv.next
+    (omega (arith, e.1, c.requires.levels.count, inv.number))
 
 pub bounds-run-number : goal.bounds-run-number
 bounds-run-number c =
     let run = c.args.run.now in
     let inv = c.loop-level.invariant in
     let gives = c.into_iter-level-iterator.ensures.into_iter_gives in
-    let t = YieldsList-turn (YieldsList-from_vec {s = c.into_iter-level-iterator.result} c.args.levels.items gives.0 (gives.1 ∙ c.args.levels.ok.0)) c.loop-level.yielded c.loop-level.level-iterator c.loop-level.yielded_by c.next.result c.next.new.self c.in-Some.level c.in-Some.is c.next.ensures.steps in
+    let t = YieldsList-turn (YieldsList-from_vec {s = c.into_iter-level-iterator.result} c.args.levels.items gives.0 (gives.1 ∙ c.args.levels.ok.0))
+    c.loop-level.yielded c.loop-level.level-iterator c.loop-level.yielded_by c.next.result c.next.new.self c.in-Some.level c.in-Some.is
+    c.next.ensures.steps in
     omega (arith, t.0, c.requires.levels.count, inv.number)
 
 pub skip_to-requires-clause-within : goal.skip_to-requires-clause-within
@@ -131,7 +156,9 @@ skip_to-requires-clause-within c =
     let run = c.args.run.now in
     let inv = c.loop-level.invariant in
     let gives = c.into_iter-level-iterator.ensures.into_iter_gives in
-    let t = YieldsList-turn (YieldsList-from_vec {s = c.into_iter-level-iterator.result} c.args.levels.items gives.0 (gives.1 ∙ c.args.levels.ok.0)) c.loop-level.yielded c.loop-level.level-iterator c.loop-level.yielded_by c.next.result c.next.new.self c.in-Some.level c.in-Some.is c.next.ensures.steps in
+    let t = YieldsList-turn (YieldsList-from_vec {s = c.into_iter-level-iterator.result} c.args.levels.items gives.0 (gives.1 ∙ c.args.levels.ok.0))
+    c.loop-level.yielded c.loop-level.level-iterator c.loop-level.yielded_by c.next.result c.next.new.self c.in-Some.level c.in-Some.is
+    c.next.ensures.steps in
     let known = c.requires.vehicles c.loop-level.number (omega (arith, t.0, c.requires.levels.count, inv.number)) in
     omega (arith, known)
 

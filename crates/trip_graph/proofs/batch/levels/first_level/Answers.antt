@@ -23,5 +23,11 @@ returns c =
     let tau = travel_time c.args.growth.now.times.now in
     let settled = c.args.growth.now.settled.now in
     let inv = c.loop-vehicle.invariant in
-    let e : c.loop-vehicle.vehicle ≡ length settled.vehicles = omega (arith, c.loop-vehicle-test.false, c.loop-vehicle.auto.vehicle-end, ap length c.as_slice-count.ensures) in
+    let e : c.loop-vehicle.vehicle ≡ length settled.vehicles = omega (
+      arith,
+      c.loop-vehicle-test.false,
+      c.loop-vehicle.auto.vehicle-end,
+      ap length
+          c.as_slice-count.ensures,
+    ) in
     (subst (λ (n : ℕ). AreLevelsUpTo tau settled 0 n c.loop-vehicle.lists.items) e inv.level, inv.counted, omega (arith, inv.few, e))

@@ -25,7 +25,13 @@ pub returns-in_err-found : goal.returns-in_err-found
 returns-in_err-found g c = on_err c.from_residual-in_err-found.result _ c.from_residual-in_err-found.ensures.0
 
 pub runs-init : goal.runs-init
-runs-init g c = rw c.requires.none (record { level = record { total = refl; each = λ v h. absurd (omega (arith, h)) }; counted = refl; fits = omega arith; within = omega arith })
+runs-init g c = rw c.requires.none (record {
+  level = record { total = refl; each = λ v h. absurd (omega (arith, h)) };
+  counted = refl;
+  fits =
+      omega arith;
+  within = omega arith;
+})
 
 pub add_run-requires-clause-levels : goal.add_run-requires-clause-levels
 add_run-requires-clause-levels g c = c.in_ok-levels.ensures
@@ -33,7 +39,8 @@ add_run-requires-clause-levels g c = c.in_ok-levels.ensures
 pub add_run-requires-clause-next : goal.add_run-requires-clause-next
 add_run-requires-clause-next g c =
     let count : c.len-in-runs.result ≡ length c.runs.lists.items = omega (arith, c.len-in-runs.ensures, c.runs.lists.ok.0) in
-    rw c.as_slice.ensures.value (subst (λ n. AreNext c.args.below.now n c.next_run-next.result.vehicles.items c.next_run-next.result.end) count c.next_run-next.ensures.next)
+    rw c.as_slice.ensures.value (subst (λ n. AreNext c.args.below.now n c.next_run-next.result.vehicles.items c.next_run-next.result.end) count
+    c.next_run-next.ensures.next)
 
 pub returns-in_default : goal.returns-in_default
 returns-in_default g c = rw c.in_default.is at c.in_ok-found.ensures
@@ -41,5 +48,6 @@ returns-in_default g c = rw c.in_default.is at c.in_ok-found.ensures
 pub runs-preserved : goal.runs-preserved
 runs-preserved g c =
     let went = rw c.in-Some.is at c.in_ok-found.ensures in
-    let all = subst (λ n. AreLevelsUpTo (tau_of c.args.growth.now) (batch_of c.args.growth.now) (c.args.size + 1) n c.add_run.new.lists.items) (sym went.0.total) went.0 in
+    let all = subst (λ n. AreLevelsUpTo (tau_of c.args.growth.now) (batch_of c.args.growth.now) (c.args.size + 1) n c.add_run.new.lists.items)
+    (sym went.0.total) went.0 in
     record { level = all; counted = went.1; fits = went.2; within = omega (arith, went.0.total, c.next_run-next.ensures.end) }

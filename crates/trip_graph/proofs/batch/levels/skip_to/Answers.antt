@@ -20,7 +20,8 @@ loop-vehicle-preserved c =
     let more = step.total_more lists [] in
     let same = inv.total in
     record {
-      level = rw (c.in_ok-push.ensures.items, none) (step.level_skip (tau_of run.growth.now) settled c.sub_trips_are_servable.ensures.servable (point_count run.growth.now.times.now) run.size v run.below.now lists
+      level = rw (c.in_ok-push.ensures.items, none) (step.level_skip (tau_of run.growth.now) settled c.sub_trips_are_servable.ensures.servable
+          (point_count run.growth.now.times.now) run.size v run.below.now lists
           run.growth.now.times.now.table.times can.can.sound can.rows lt (c.requires.empty v (omega arith) (omega arith)) inv.level);
       total = rw (c.in_ok-push.ensures.items, none) (omega arith);
       end = omega arith;

@@ -37,7 +37,8 @@ vehicles-preserved c =
           }
       | else-not-is_empty w ↦
           let zero : length c.rows.result.now ≡ 0 = eqb-true (length c.rows.result.now) 0 (sym c.is_empty.ensures ∙ w.if-not-is_empty.false) in
-          let empty : get_or lists end [] ≡ [] = get_or_default lists end [] c.index-lists-end.result lt ∙ sym c.index-lists-end.is ∙ sym c.rows.ensures ∙ nothing c.rows.result.now zero in
+          let empty : get_or lists end [] ≡ [] = get_or_default lists end [] c.index-lists-end.result lt ∙ sym c.index-lists-end.is ∙ sym c.rows.ensures ∙
+          nothing c.rows.result.now zero in
           record {
             next = rw w.vehicles-is (next_skip lists c.args.from c.vehicles.vehicles.items end inv.next empty);
             counted = rw w.vehicles-is (omega arith);

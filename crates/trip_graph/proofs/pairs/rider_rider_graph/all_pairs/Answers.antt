@@ -15,7 +15,8 @@ returns g c =
     record {
       right = graph.right;
       order = record { rising = graph.rising; below = λ k d h. (graph.right k d h).below };
-      whole = lists_whole (ℕ × ℕ) (λ p. p) (λ a b. (a, b)) (0, 0) (IsRrEdge (travel_time c.args.times.now) c.args.settled.now) c.loop-first.first (length c.args.settled.now.riders)
+      whole = lists_whole (ℕ × ℕ) (λ p. p) (λ a b. (a, b)) (0, 0) (IsRrEdge (travel_time c.args.times.now) c.args.settled.now) c.loop-first.first
+          (length c.args.settled.now.riders)
           c.loop-first.pairs.items (omega arith) (λ a b e. let under = e.below in let over = e.within in omega arith) graph;
     }
 

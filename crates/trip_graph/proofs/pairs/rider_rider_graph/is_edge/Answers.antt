@@ -3,7 +3,17 @@ use Rattle.trip_graph.proofs.Common.{point_count, travel_time, Task, IsTask, IsS
 use Rattle.std.specs.Bool.{MatchBool}
 use Rattle.std.specs.Result.{IfOk}
 use Rattle.std.proofs.lemmas.Result.{IfOk-weaker, on_ok_weaker}
-use Rattle.trip_graph.proofs.pairs.PairTasks.{rider_read, pair_needs_seats, pair_valid, put_at, stays_pair, task_of_first, origins_within, no_edge_from, rr_answer}
+use Rattle.trip_graph.proofs.pairs.PairTasks.{
+  rider_read,
+  pair_needs_seats,
+  pair_valid,
+  put_at,
+  stays_pair,
+  task_of_first,
+  origins_within,
+  no_edge_from,
+  rr_answer,
+}
 use Rattle.trip_graph.proofs.Lists.{on_err}
 use Rattle.trip_graph.proofs.pairs.rider_rider_graph.is_edge.Goals as goal
 
@@ -11,17 +21,21 @@ pub returns-then-settled-smaller_party-clause-edge : goal.returns-then-settled-s
 returns-then-settled-smaller_party-clause-edge g c =
     let tau = travel_time c.args.times.now in let settled = c.args.settled.now in let a = c.args.pair.0 in let b = c.args.pair.1 in
     no_edge_from tau settled a b
-    (λ s. let seats = pair_needs_seats tau settled _ a b s in let few = c.if-settled-smaller_party.true in let is = c.smaller_party.ensures.value in omega arith)
-    (λ s. let seats = pair_needs_seats tau settled _ a b s in let few = c.if-settled-smaller_party.true in let is = c.smaller_party.ensures.value in omega arith)
+    (λ s. let seats = pair_needs_seats tau settled _ a b s in let few = c.if-settled-smaller_party.true in let is =
+    c.smaller_party.ensures.value in omega arith)
+    (λ s. let seats = pair_needs_seats tau settled _ a b s in let few = c.if-settled-smaller_party.true in let is =
+    c.smaller_party.ensures.value in omega arith)
 
 pub starts_at-requires : goal.starts_at-requires
 starts_at-requires g c =
-    let points = point_count c.args.times.now in let tau = travel_time c.args.times.now in let settled = c.args.settled.now in let a = c.args.pair.0 in let b = c.args.pair.1 in
+    let points = point_count c.args.times.now in let tau = travel_time c.args.times.now in let settled = c.args.settled.now in let a = c.args.pair.0 in let b =
+    c.args.pair.1 in
     let seats : 0 < settled.most_seats = (let enough = c.if-settled-smaller_party.false in let some = c.smaller_party.ensures.some in omega arith) in
     let read = rider_read settled _ a c.index-as_slice-first.result c.as_slice.ensures (omega arith) in
     subst (IsTask points) (sym (put_at settled _ _ a b c.set_second.ensures))
     (pair_valid points tau settled _ a b c.requires.sound c.requires.below c.requires.within seats
-    (subst (λ (v : ℕ). v < points) (ap (λ r. r.leg.origin) (sym read)) (origins_within points tau settled a b c.requires.sound c.requires.below c.requires.within seats).0))
+    (subst (λ (v : ℕ). v < points) (ap (λ r. r.leg.origin) (sym read)) (origins_within points tau settled a b c.requires.sound c.requires.below
+    c.requires.within seats).0))
 
 pub returns-then-branch-clause-edge : goal.returns-then-branch-clause-edge
 returns-then-branch-clause-edge g c =
@@ -36,13 +50,15 @@ returns-then-branch-clause-edge g c =
 
 pub starts_at-requires-2 : goal.starts_at-requires-2
 starts_at-requires-2 g c =
-    let points = point_count c.args.times.now in let tau = travel_time c.args.times.now in let settled = c.args.settled.now in let a = c.args.pair.0 in let b = c.args.pair.1 in
+    let points = point_count c.args.times.now in let tau = travel_time c.args.times.now in let settled = c.args.settled.now in let a = c.args.pair.0 in let b =
+    c.args.pair.1 in
     let seats : 0 < settled.most_seats = (let enough = c.if-settled-smaller_party.false in let some = c.smaller_party.ensures.some in omega arith) in
     let read = rider_read settled _ b c.index-as_slice-second.result c.as_slice-2.ensures c.requires.within in
     let again = stays_pair settled _ _ _ a b c.set_second.ensures c.in_ok-starts_at.ensures.task in
     subst (IsTask points) (sym (put_at settled _ _ a b again))
     (pair_valid points tau settled _ a b c.requires.sound c.requires.below c.requires.within seats
-    (subst (λ (v : ℕ). v < points) (ap (λ r. r.leg.origin) (sym read)) (origins_within points tau settled a b c.requires.sound c.requires.below c.requires.within seats).1))
+    (subst (λ (v : ℕ). v < points) (ap (λ r. r.leg.origin) (sym read)) (origins_within points tau settled a b c.requires.sound c.requires.below
+    c.requires.within seats).1))
 
 pub returns-clause-edge : goal.returns-clause-edge
 returns-clause-edge g c =
@@ -52,16 +68,20 @@ returns-clause-edge g c =
     let never = subst (λ (v : ℕ). IsServable tau (pair_task settled v a b) → ⊥) (ap (λ r. r.leg.origin) first)
     (subst (λ (t : Task). IsServable tau t → ⊥) (put_at settled _ _ a b c.set_second.ensures) (rw c.if-branch.false at c.in_ok-starts_at.ensures.serves)) in
     let again = stays_pair settled _ _ _ a b c.set_second.ensures c.in_ok-starts_at.ensures.task in
-    let found = subst (λ (v : ℕ). IfOk c.starts_at-2.result (λ serves. MatchBool serves (IsServable tau (pair_task settled v a b)) (IsServable tau (pair_task settled v a b) → ⊥)))
+    let found = subst (λ (v : ℕ). IfOk c.starts_at-2.result (λ serves. MatchBool serves (IsServable tau (pair_task settled v a b))
+    (IsServable tau (pair_task settled v a b) → ⊥)))
     (ap (λ r. r.leg.origin) second)
-    (subst (λ (t : Task). IfOk c.starts_at-2.result (λ serves. MatchBool serves (IsServable tau t) (IsServable tau t → ⊥))) (put_at settled _ _ a b again) c.starts_at-2.ensures.serves) in
-    IfOk-weaker c.starts_at-2.result (λ serves. MatchBool serves (IsServable tau (pair_task settled (rider_at settled b).leg.origin a b)) (IsServable tau (pair_task settled (rider_at settled b).leg.origin a b) → ⊥))
+    (subst (λ (t : Task). IfOk c.starts_at-2.result (λ serves. MatchBool serves (IsServable tau t) (IsServable tau t → ⊥))) (put_at settled _ _ a b again)
+    c.starts_at-2.ensures.serves) in
+    IfOk-weaker c.starts_at-2.result (λ serves. MatchBool serves (IsServable tau (pair_task settled (rider_at settled b).leg.origin a b))
+    (IsServable tau (pair_task settled (rider_at settled b).leg.origin a b) → ⊥))
     (λ edge. MatchBool edge (IsRrEdge tau settled a b) (IsRrEdge tau settled a b → ⊥))
     (λ answer h. rr_answer tau settled a b answer c.requires.below c.requires.within never h) found
 
 pub returns-then-branch-clause-task : goal.returns-then-branch-clause-task
 returns-then-branch-clause-task g c =
-    task_of_first c.args.settled.now _ c.args.pair.0 c.args.pair.1 (stays_pair c.args.settled.now _ _ _ c.args.pair.0 c.args.pair.1 c.set_second.ensures c.in_ok-starts_at.ensures.task)
+    task_of_first c.args.settled.now _ c.args.pair.0 c.args.pair.1 (stays_pair c.args.settled.now _ _ _ c.args.pair.0 c.args.pair.1 c.set_second.ensures
+    c.in_ok-starts_at.ensures.task)
 
 pub returns-clause-task : goal.returns-clause-task
 returns-clause-task g c =

@@ -15,6 +15,7 @@ returns g c =
     record {
       right = graph.right;
       rising = graph.rising;
-      whole = lists_whole RvEdge pair_of (λ v r. record { vehicle = v; rider = r }) no_edge (IsRvEdge (travel_time c.args.times.now) c.args.settled.now) c.loop-vehicle.vehicle _
+      whole = lists_whole RvEdge pair_of (λ v r. record { vehicle = v; rider = r }) no_edge (IsRvEdge (travel_time c.args.times.now) c.args.settled.now)
+          c.loop-vehicle.vehicle _
           c.loop-vehicle.edges.items (omega arith) (λ v r e. e.vehicle) graph;
     }

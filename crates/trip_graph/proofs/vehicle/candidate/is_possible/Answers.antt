@@ -16,4 +16,5 @@ returns-then-not-has_trip c refused served =
     let place = c.loop-place.place in
     let removed = length-remove trip place (omega arith) in
     let listed = c.requires.below.whole _ (omega arith) (c.requires.can.rule.without trip place served (omega arith)) in
-    false≢true (sym c.if-not-has_trip.true ∙ c.has_trip.ensures.1 (subst (Contains (trips_of c.args.rows.now)) (sym (c.as_slice.ensures.value ∙ c.without_rider.ensures)) listed))
+    false≢true (sym c.if-not-has_trip.true ∙ c.has_trip.ensures.1 (subst (Contains (trips_of c.args.rows.now))
+    (sym (c.as_slice.ensures.value ∙ c.without_rider.ensures)) listed))

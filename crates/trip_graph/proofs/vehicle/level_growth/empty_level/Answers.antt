@@ -9,7 +9,8 @@ pub returns-clause-rows : goal.returns-clause-rows
 returns-clause-rows g c =
     let Serves = CanServe 6 (travel_time c.args.times.now) c.args.settled.now c.args.vehicle in
     let Costs = CostsLeast (travel_time c.args.times.now) c.args.settled.now c.args.vehicle in
-    let least : Costs [] c.in-Some.cost = subst (λ (t : Task). IsLeastDelay (travel_time c.args.times.now) t c.in-Some.cost) c.task_of-task.ensures (rw c.in-Some.is at c.in_ok-cost.ensures.least) in
+    let least : Costs [] c.in-Some.cost = subst (λ (t : Task). IsLeastDelay (travel_time c.args.times.now) t c.in-Some.cost) c.task_of-task.ensures
+    (rw c.in-Some.is at c.in_ok-cost.ensures.least) in
     let served : Serves [] = record {
       vehicle = c.requires.vehicle;
       riders = no_riders (length c.args.settled.now.riders);

@@ -11,8 +11,10 @@ grow_size-requires-clause-can g c =
     record {
       sound = c.requires.sound;
       vehicle = c.requires.vehicle;
-      rule = rule_of c.sub_trips_are_servable.ensures.servable points tau settled c.args.vehicle c.args.times.now.table.times c.requires.sound c.requires.vehicle;
-      edges = λ a b s. c.requires.pairs a b (edge_of c.pairs_are_edges.ensures points tau settled c.args.vehicle c.args.times.now.table.times c.requires.sound c.requires.vehicle a b s);
+      rule = rule_of c.sub_trips_are_servable.ensures.servable points tau settled c.args.vehicle c.args.times.now.table.times c.requires.sound
+          c.requires.vehicle;
+      edges = λ a b s. c.requires.pairs a b (edge_of c.pairs_are_edges.ensures points tau settled c.args.vehicle c.args.times.now.table.times c.requires.sound
+          c.requires.vehicle a b s);
     }
 
 pub grow_size-requires-clause-below : goal.grow_size-requires-clause-below

@@ -1,5 +1,18 @@
 use Rattle.std.proofs.Common.{ℕ, ◌<◌, [], ◌∷◌, ◌++◌, length, sym, ap, ◌∙◌, subst, arith}
-use Rattle.trip_graph.proofs.Common.{length-map, length_push, Task, point_count, travel_time, IsTask, IsBelow, IsServable, IsLeastDelay, serves, costs, rider_count}
+use Rattle.trip_graph.proofs.Common.{
+  length-map,
+  length_push,
+  Task,
+  point_count,
+  travel_time,
+  IsTask,
+  IsBelow,
+  IsServable,
+  IsLeastDelay,
+  serves,
+  costs,
+  rider_count,
+}
 use Rattle.trip_graph.proofs.vehicle.GrownLevels.{taken, passed}
 use Rattle.trip_graph.proofs.vehicle.RowGrowth.{last_rider, row_of, one_too_many, longer_task}
 use Rattle.trip_graph.proofs.Lists.{on_err}
@@ -8,7 +21,8 @@ use Rattle.trip_graph.proofs.vehicle.row_growth.add_trip.Goals as goal
 pub returns-then-not-may_share-clause-answer : goal.returns-then-not-may_share-clause-answer
 returns-then-not-may_share-clause-answer g c =
     let growth = c.args.growth.now in (
-      passed (rider_count growth) (serves growth) (costs growth) c.requires.can.rule c.args.longer.now.riders.now c.args.longer.now.rider c.args.growing.now.found.items
+      passed (rider_count growth) (serves growth) (costs growth) c.requires.can.rule c.args.longer.now.riders.now c.args.longer.now.rider
+          c.args.growing.now.found.items
           (c.may_share.ensures c.if-not-may_share.true) c.requires.upto,
       c.requires.room,
     )
@@ -17,7 +31,8 @@ pub returns-then-not-is_possible-clause-answer : goal.returns-then-not-is_possib
 returns-then-not-is_possible-clause-answer g c =
     let growth = c.args.growth.now in
     let is = c.as_slice-trip.ensures.value ∙ c.with_rider-riders.ensures in (
-      passed (rider_count growth) (serves growth) (costs growth) c.requires.can.rule c.args.longer.now.riders.now c.args.longer.now.rider c.args.growing.now.found.items
+      passed (rider_count growth) (serves growth) (costs growth) c.requires.can.rule c.args.longer.now.riders.now c.args.longer.now.rider
+          c.args.growing.now.found.items
           (λ s. c.is_possible.ensures c.if-not-is_possible.true (subst (serves growth) (sym is) s)) c.requires.upto,
       c.requires.room,
     )
@@ -25,9 +40,11 @@ returns-then-not-is_possible-clause-answer g c =
 pub returns-in_default-clause-answer : goal.returns-in_default-clause-answer
 returns-in_default-clause-answer g c =
     let growth = c.args.growth.now in
-    let same = longer_task growth.settled.now growth.vehicle c.args.task.now c.args.longer.now.riders.now c.args.longer.now.rider c.as_slice.result.now c.index-as_slice-longer.result c.requires.task c.as_slice.ensures c.requires.trip in
+    let same = longer_task growth.settled.now growth.vehicle c.args.task.now c.args.longer.now.riders.now c.args.longer.now.rider c.as_slice.result.now
+    c.index-as_slice-longer.result c.requires.task c.as_slice.ensures c.requires.trip in
     let none = rw c.in_default.is at c.in_ok-cost.ensures.none in (
-      passed (rider_count growth) (serves growth) (costs growth) c.requires.can.rule c.args.longer.now.riders.now c.args.longer.now.rider c.args.growing.now.found.items
+      passed (rider_count growth) (serves growth) (costs growth) c.requires.can.rule c.args.longer.now.riders.now c.args.longer.now.rider
+          c.args.growing.now.found.items
           (λ s. none (subst (IsServable (travel_time growth.times.now)) (sym same) s.servable)) c.requires.upto,
       c.requires.room,
     )
@@ -35,22 +52,46 @@ returns-in_default-clause-answer g c =
 pub returns-then-len-growth-clause-answer : goal.returns-then-len-growth-clause-answer
 returns-then-len-growth-clause-answer g c =
     let growth = c.args.growth.now in
-    let same = longer_task growth.settled.now growth.vehicle c.args.task.now c.args.longer.now.riders.now c.args.longer.now.rider c.as_slice.result.now c.index-as_slice-longer.result c.requires.task c.as_slice.ensures c.requires.trip in
+    let same = longer_task growth.settled.now growth.vehicle c.args.task.now c.args.longer.now.riders.now c.args.longer.now.rider c.as_slice.result.now
+    c.index-as_slice-longer.result c.requires.task c.as_slice.ensures c.requires.trip in
     let least = subst (λ t. IsLeastDelay (travel_time growth.times.now) t c.in-Some.cost) same (rw c.in-Some.is at c.in_ok-cost.ensures.least) in
-    let good = row_of (serves growth) (costs growth) (c.args.longer.now.riders.now ++ c.args.longer.now.rider ∷ []) (record { riders = c.with_rider-riders.result; cost = c.in-Some.cost }) c.with_rider-riders.ensures
-    (record { vehicle = c.requires.can.vehicle; riders = c.requires.trip; size = omega (arith, length_push c.args.longer.now.riders.now c.args.longer.now.rider); servable = (least.stops, least.serves) }) least in
+    let good = row_of (serves growth) (costs growth) (c.args.longer.now.riders.now ++ c.args.longer.now.rider ∷ [])
+    (record { riders = c.with_rider-riders.result; cost = c.in-Some.cost }) c.with_rider-riders.ensures
+    (record {
+      vehicle = c.requires.can.vehicle;
+      riders = c.requires.trip;
+      size = omega (
+        arith,
+        length_push c.args.longer.now.riders.now
+            c.args.longer.now.rider,
+      );
+      servable = (least.stops, least.serves);
+    }) least in
     one_too_many (serves growth) (costs growth) _ growth.room _ c.args.growing.now.found.items _
-    (taken (rider_count growth) (serves growth) (costs growth) c.requires.can.rule c.args.longer.now.riders.now c.args.longer.now.rider c.args.growing.now.found.items _ c.with_rider-riders.ensures good c.requires.upto) (omega arith)
+    (taken (rider_count growth) (serves growth) (costs growth) c.requires.can.rule c.args.longer.now.riders.now c.args.longer.now.rider
+    c.args.growing.now.found.items _ c.with_rider-riders.ensures good c.requires.upto) (omega arith)
 
 pub returns-clause-answer : goal.returns-clause-answer
 returns-clause-answer g c =
     let growth = c.args.growth.now in
-    let same = longer_task growth.settled.now growth.vehicle c.args.task.now c.args.longer.now.riders.now c.args.longer.now.rider c.as_slice.result.now c.index-as_slice-longer.result c.requires.task c.as_slice.ensures c.requires.trip in
+    let same = longer_task growth.settled.now growth.vehicle c.args.task.now c.args.longer.now.riders.now c.args.longer.now.rider c.as_slice.result.now
+    c.index-as_slice-longer.result c.requires.task c.as_slice.ensures c.requires.trip in
     let least = subst (λ t. IsLeastDelay (travel_time growth.times.now) t c.in-Some.cost) same (rw c.in-Some.is at c.in_ok-cost.ensures.least) in
-    let good = row_of (serves growth) (costs growth) (c.args.longer.now.riders.now ++ c.args.longer.now.rider ∷ []) (record { riders = c.with_rider-riders.result; cost = c.in-Some.cost }) c.with_rider-riders.ensures
-    (record { vehicle = c.requires.can.vehicle; riders = c.requires.trip; size = omega (arith, length_push c.args.longer.now.riders.now c.args.longer.now.rider); servable = (least.stops, least.serves) }) least in
+    let good = row_of (serves growth) (costs growth) (c.args.longer.now.riders.now ++ c.args.longer.now.rider ∷ [])
+    (record { riders = c.with_rider-riders.result; cost = c.in-Some.cost }) c.with_rider-riders.ensures
+    (record {
+      vehicle = c.requires.can.vehicle;
+      riders = c.requires.trip;
+      size = omega (
+        arith,
+        length_push c.args.longer.now.riders.now
+            c.args.longer.now.rider,
+      );
+      servable = (least.stops, least.serves);
+    }) least in
     rw c.in_ok-push.ensures.items (
-      taken (rider_count growth) (serves growth) (costs growth) c.requires.can.rule c.args.longer.now.riders.now c.args.longer.now.rider c.args.growing.now.found.items _ c.with_rider-riders.ensures good c.requires.upto,
+      taken (rider_count growth) (serves growth) (costs growth) c.requires.can.rule c.args.longer.now.riders.now c.args.longer.now.rider
+          c.args.growing.now.found.items _ c.with_rider-riders.ensures good c.requires.upto,
       omega (arith, length_push c.args.growing.now.found.items (record { riders = c.with_rider-riders.result; cost = c.in-Some.cost })),
     )
 
@@ -58,22 +99,27 @@ pub cost_with-requires-clause-valid : goal.cost_with-requires-clause-valid
 cost_with-requires-clause-valid g c =
     let growth = c.args.growth.now in
     let longer = length_push c.args.longer.now.riders.now c.args.longer.now.rider in
-    let same = longer_task growth.settled.now growth.vehicle c.args.task.now c.args.longer.now.riders.now c.args.longer.now.rider c.as_slice.result.now c.index-as_slice-longer.result c.requires.task c.as_slice.ensures c.requires.trip in
+    let same = longer_task growth.settled.now growth.vehicle c.args.task.now c.args.longer.now.riders.now c.args.longer.now.rider c.as_slice.result.now
+    c.index-as_slice-longer.result c.requires.task c.as_slice.ensures c.requires.trip in
     subst (IsTask (point_count growth.times.now)) (sym same)
-    ((c.requires.can.sound.each growth.vehicle c.requires.can.vehicle).tasks (c.args.longer.now.riders.now ++ c.args.longer.now.rider ∷ []) c.requires.trip (omega arith))
+    ((c.requires.can.sound.each growth.vehicle c.requires.can.vehicle).tasks (c.args.longer.now.riders.now ++ c.args.longer.now.rider ∷ []) c.requires.trip
+    (omega arith))
 
 pub is_possible-requires-clause-below : goal.is_possible-requires-clause-below
 is_possible-requires-clause-below g c =
-    let sized = ap length (c.as_slice-trip.ensures.value ∙ c.with_rider-riders.ensures) in let longer = length_push c.args.longer.now.riders.now c.args.longer.now.rider in
+    let sized = ap length (c.as_slice-trip.ensures.value ∙ c.with_rider-riders.ensures) in let longer =
+    length_push c.args.longer.now.riders.now c.args.longer.now.rider in
     subst (λ (n : ℕ). IsBelow (serves c.args.growth.now) n c.args.rows.now) (omega arith) c.requires.below
 
 pub is_possible-requires-clause-some : goal.is_possible-requires-clause-some
 is_possible-requires-clause-some g c =
-    let sized = ap length (c.as_slice-trip.ensures.value ∙ c.with_rider-riders.ensures) in omega (arith, length_push c.args.longer.now.riders.now c.args.longer.now.rider)
+    let sized = ap length (c.as_slice-trip.ensures.value ∙ c.with_rider-riders.ensures) in omega
+    (arith, length_push c.args.longer.now.riders.now c.args.longer.now.rider)
 
 pub is_possible-requires-clause-size : goal.is_possible-requires-clause-size
 is_possible-requires-clause-size g c =
-    let sized = ap length (c.as_slice-trip.ensures.value ∙ c.with_rider-riders.ensures) in omega (arith, length_push c.args.longer.now.riders.now c.args.longer.now.rider)
+    let sized = ap length (c.as_slice-trip.ensures.value ∙ c.with_rider-riders.ensures) in omega
+    (arith, length_push c.args.longer.now.riders.now c.args.longer.now.rider)
 
 pub bounds-as_slice-longer : goal.bounds-as_slice-longer
 bounds-as_slice-longer g c = omega (arith, last_rider _ _ _ c.requires.trip, ap length c.as_slice.ensures)

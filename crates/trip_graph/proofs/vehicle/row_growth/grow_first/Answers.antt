@@ -9,7 +9,8 @@ use Rattle.trip_graph.proofs.vehicle.row_growth.grow_first.Goals as goal
 pub returns-then-is_empty-clause-answer : goal.returns-then-is_empty-clause-answer
 returns-then-is_empty-clause-answer g c =
     let growth = c.args.growth.now in (
-      none_first (rider_count growth) (serves growth) (costs growth) c.args.rows.now c.args.growing.now.found.items c.requires.can.rule c.requires.below (grind (arith, nat_tests)) c.requires.none,
+      none_first (rider_count growth) (serves growth) (costs growth) c.args.rows.now c.args.growing.now.found.items c.requires.can.rule c.requires.below
+          (grind (arith, nat_tests)) c.requires.none,
       rw c.requires.none (omega arith),
     )
 
@@ -59,4 +60,10 @@ returns-then-not-branch-clause-answer g c = rw c.if-not-branch.true at c.in_ok-a
 pub loop-rider-preserved : goal.loop-rider-preserved
 loop-rider-preserved g c =
     let went = rw c.if-not-branch.false at c.in_ok-add_trip.ensures.answer in
-    record { upto = went.0; room = went.1; task = c.in_ok-add_trip.ensures.task ∙ c.loop-rider.invariant.task; cost = omega (arith, c.add_trip.ensures.steps, c.loop-rider.invariant.cost) }
+    record {
+      upto = went.0;
+      room = went.1;
+      task = c.in_ok-add_trip.ensures.task ∙ c.loop-rider.invariant.task;
+      cost =
+          omega (arith, c.add_trip.ensures.steps, c.loop-rider.invariant.cost);
+    }

@@ -33,5 +33,8 @@ returns-in-Equal c =
 
 pub returns : goal.returns
 returns c =
-    let rows = c.args.rows.now in let trip = c.args.trip.now in
-    (λ e. absurd (cc), λ w. absurd (found_nowhere rows trip c.requires.sized c.loop-low.low c.loop-low.high (omega arith) c.loop-low.invariant.before c.loop-low.invariant.after w))
+    let rows = c.args.rows.now in let trip = c.args.trip.now in (
+      λ e. absurd (cc),
+      λ w. absurd (found_nowhere rows trip c.requires.sized c.loop-low.low c.loop-low.high (omega arith) c.loop-low.invariant.before
+          c.loop-low.invariant.after w),
+    )

@@ -31,16 +31,20 @@ loop-size-preserved g c =
     let done : c.append.new.self.items ≡ xs ++ ys = c.in_ok-append.ensures.items ∙ ap (λ (t : List _). xs ++ t) c.into_rows-done.ensures in
     record {
       below = went.0;
-      smaller = rw done (smaller_joined (CanServe 6 tau settled v) (CostsLeast tau settled v) c.loop-size.size xs ys c.loop-size.invariant.smaller (level_of_rows tau settled v c.loop-size.size ys c.loop-size.invariant.below));
+      smaller = rw done (smaller_joined (CanServe 6 tau settled v) (CostsLeast tau settled v) c.loop-size.size xs ys c.loop-size.invariant.smaller
+          (level_of_rows tau settled v c.loop-size.size ys c.loop-size.invariant.below));
       room = rw done (
-          let n = length-append xs ys in let same = ap length c.rows-in-loop-size.ensures in let counted = c.len.ensures in let whole = c.loop-size.smaller.ok.0 in
+          let n = length-append xs ys in let same = ap length c.rows-in-loop-size.ensures in let counted = c.len.ensures in let whole =
+          c.loop-size.smaller.ok.0 in
           let left = went.1 in let fits = c.loop-size.invariant.room in omega arith);
-      cost = rw done (more_steps tau settled v c.loop-size.size xs ys c.loop-size.invariant.smaller c.loop-size.invariant.below c.args.steps.now c.grow_level.new.steps (let more = c.grow_level.ensures.steps in let so_far = c.loop-size.invariant.cost in omega arith));
+      cost = rw done (more_steps tau settled v c.loop-size.size xs ys c.loop-size.invariant.smaller c.loop-size.invariant.below c.args.steps.now
+          c.grow_level.new.steps (let more = c.grow_level.ensures.steps in let so_far = c.loop-size.invariant.cost in omega arith));
     }
 
 pub returns-in_err-next-clause-steps : goal.returns-in_err-next-clause-steps
 returns-in_err-next-clause-steps g c =
-    steps_so_far (travel_time c.args.times.now) c.args.settled.now c.args.vehicle c.loop-size.size c.loop-size.smaller.items c.loop-size.below c.loop-size.invariant.smaller c.loop-size.invariant.below
+    steps_so_far (travel_time c.args.times.now) c.args.settled.now c.args.vehicle c.loop-size.size c.loop-size.smaller.items c.loop-size.below
+    c.loop-size.invariant.smaller c.loop-size.invariant.below
     c.args.trip c.args.room c.args.steps.now c.grow_level.new.steps (omega arith) (let fits = c.loop-size.invariant.room in omega arith)
     (let more = c.grow_level.ensures.steps in let so_far = c.loop-size.invariant.cost in omega arith)
 
@@ -49,20 +53,23 @@ returns-in-TooMany-clause-grown g c =
     let tau = travel_time c.args.times.now in let settled = c.args.settled.now in let v = c.args.vehicle in
     let more = rw c.in-TooMany.is at c.in_ok-next.ensures.level in
     more_within tau settled v c.args.trip c.args.room
-    (more_joined (CanServe 6 tau settled v) (CostsLeast tau settled v) c.loop-size.size _ c.args.room c.args.trip c.loop-size.smaller.items c.loop-size.below c.loop-size.invariant.smaller
+    (more_joined (CanServe 6 tau settled v) (CostsLeast tau settled v) c.loop-size.size _ c.args.room c.args.trip c.loop-size.smaller.items c.loop-size.below
+    c.loop-size.invariant.smaller
     (level_of_rows tau settled v c.loop-size.size c.loop-size.below c.loop-size.invariant.below)
     (level_of_more tau settled v (c.loop-size.size + 1) _ more) (omega arith)
     (let same = ap length c.rows-in-loop-size.ensures in let counted = c.len.ensures in let whole = c.loop-size.smaller.ok.0 in omega arith))
 
 pub returns-in-TooMany-clause-steps : goal.returns-in-TooMany-clause-steps
 returns-in-TooMany-clause-steps g c =
-    steps_so_far (travel_time c.args.times.now) c.args.settled.now c.args.vehicle c.loop-size.size c.loop-size.smaller.items c.loop-size.below c.loop-size.invariant.smaller c.loop-size.invariant.below
+    steps_so_far (travel_time c.args.times.now) c.args.settled.now c.args.vehicle c.loop-size.size c.loop-size.smaller.items c.loop-size.below
+    c.loop-size.invariant.smaller c.loop-size.invariant.below
     c.args.trip c.args.room c.args.steps.now c.grow_level.new.steps (omega arith) (let fits = c.loop-size.invariant.room in omega arith)
     (let more = c.grow_level.ensures.steps in let so_far = c.loop-size.invariant.cost in omega arith)
 
 pub returns-in_err-append-clause-steps : goal.returns-in_err-append-clause-steps
 returns-in_err-append-clause-steps g c =
-    steps_so_far (travel_time c.args.times.now) c.args.settled.now c.args.vehicle c.loop-size.size c.loop-size.smaller.items c.loop-size.below c.loop-size.invariant.smaller c.loop-size.invariant.below
+    steps_so_far (travel_time c.args.times.now) c.args.settled.now c.args.vehicle c.loop-size.size c.loop-size.smaller.items c.loop-size.below
+    c.loop-size.invariant.smaller c.loop-size.invariant.below
     c.args.trip c.args.room c.args.steps.now c.grow_level.new.steps (omega arith) (let fits = c.loop-size.invariant.room in omega arith)
     (let more = c.grow_level.ensures.steps in let so_far = c.loop-size.invariant.cost in omega arith)
 
@@ -70,26 +77,31 @@ pub returns-clause-grown : goal.returns-clause-grown
 returns-clause-grown g c =
     let xs = c.loop-size.smaller.items in let ys = c.loop-size.below in
     let is : c.of.result ≡ xs ++ ys = c.of.ensures ∙ c.in_ok-append-2.ensures.items ∙ ap (λ (t : List _). xs ++ t) c.into_rows-last.ensures in
-    rows_of_all (travel_time c.args.times.now) c.args.settled.now c.args.vehicle c.loop-size.size xs ys c.loop-size.invariant.smaller c.loop-size.invariant.below
+    rows_of_all (travel_time c.args.times.now) c.args.settled.now c.args.vehicle c.loop-size.size xs ys c.loop-size.invariant.smaller
+    c.loop-size.invariant.below
     c.args.trip c.args.room _ (let over = c.loop-size-test.false in omega arith) is c.loop-size.invariant.room
 
 pub returns-clause-steps : goal.returns-clause-steps
 returns-clause-steps g c =
-    steps_so_far (travel_time c.args.times.now) c.args.settled.now c.args.vehicle c.loop-size.size c.loop-size.smaller.items c.loop-size.below c.loop-size.invariant.smaller c.loop-size.invariant.below
+    steps_so_far (travel_time c.args.times.now) c.args.settled.now c.args.vehicle c.loop-size.size c.loop-size.smaller.items c.loop-size.below
+    c.loop-size.invariant.smaller c.loop-size.invariant.below
     c.args.trip c.args.room c.args.steps.now c.loop-size.steps (omega arith) (let fits = c.loop-size.invariant.room in omega arith)
     (let so_far = c.loop-size.invariant.cost in omega arith)
 
 pub returns-in_err-append-2-clause-steps : goal.returns-in_err-append-2-clause-steps
 returns-in_err-append-2-clause-steps g c =
-    steps_so_far (travel_time c.args.times.now) c.args.settled.now c.args.vehicle c.loop-size.size c.loop-size.smaller.items c.loop-size.below c.loop-size.invariant.smaller c.loop-size.invariant.below
+    steps_so_far (travel_time c.args.times.now) c.args.settled.now c.args.vehicle c.loop-size.size c.loop-size.smaller.items c.loop-size.below
+    c.loop-size.invariant.smaller c.loop-size.invariant.below
     c.args.trip c.args.room c.args.steps.now c.loop-size.steps (omega arith) (let fits = c.loop-size.invariant.room in omega arith)
     (let so_far = c.loop-size.invariant.cost in omega arith)
 
 pub returns-in_err-below-clause-steps : goal.returns-in_err-below-clause-steps
-returns-in_err-below-clause-steps g c = at_most_one (travel_time c.args.times.now) c.args.settled.now c.args.vehicle c.args.trip c.args.room _ _ c.empty_level.ensures.steps
+returns-in_err-below-clause-steps g c = at_most_one (travel_time c.args.times.now) c.args.settled.now c.args.vehicle c.args.trip c.args.room _ _
+    c.empty_level.ensures.steps
 
 pub returns-then-rows-room-clause-steps : goal.returns-then-rows-room-clause-steps
-returns-then-rows-room-clause-steps g c = at_most_one (travel_time c.args.times.now) c.args.settled.now c.args.vehicle c.args.trip c.args.room _ _ c.empty_level.ensures.steps
+returns-then-rows-room-clause-steps g c = at_most_one (travel_time c.args.times.now) c.args.settled.now c.args.vehicle c.args.trip c.args.room _ _
+    c.empty_level.ensures.steps
 
 pub returns-then-rows-room-clause-grown : goal.returns-then-rows-room-clause-grown
 returns-then-rows-room-clause-grown g c =

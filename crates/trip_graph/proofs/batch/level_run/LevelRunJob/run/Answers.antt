@@ -11,4 +11,5 @@ level_piece-requires-clause-below c =
     let own = c.requires.3 in
     let v : ℕ = get_or run.vehicles.now c.args.piece 0 in
     let rows : List TripOf = get_or run.below.now v c.index-self-vehicle.result in
-    step.read_below (tau_of run.growth.now) settled run.size (length settled.vehicles) v run.below.now rows can.rows (omega (arith, can.rows.total)) (get_or_default run.below.now v c.index-self-vehicle.result rows own)
+    step.read_below (tau_of run.growth.now) settled run.size (length settled.vehicles) v run.below.now rows can.rows (omega (arith, can.rows.total))
+    (get_or_default run.below.now v c.index-self-vehicle.result rows own)
