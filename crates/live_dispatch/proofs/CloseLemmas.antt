@@ -1,6 +1,59 @@
 -- A close at a desk of its own, as the close of a batch that was open.
-use Rattle.std.proofs.Common.{◌≡◌, ℕ, ◌<◌, Bool, true, false, List, [], ◌∷◌, ◌++◌, length, take, Option, None, Some, Result, Ok, Err, ◌^◌, arith, refl, sym, ap, subst, ◌∙◌}
-use Rattle.live_dispatch.proofs.Common.{Appends, AppendsPart, Batch, BookView, HasCut, LiveFault, OutputsView, ReportFault, Rose, lines_text, entries_lines, notices_from, next_position, Close, Command, Entry, Settings, HaveHeard, Roads, State, entry_text, one-text, step, desk_of, notices_in, text_of}
+use Rattle.std.proofs.Common.{
+  ◌≡◌,
+  ℕ,
+  ◌<◌,
+  Bool,
+  true,
+  false,
+  List,
+  [],
+  ◌∷◌,
+  ◌++◌,
+  length,
+  take,
+  Option,
+  None,
+  Some,
+  Result,
+  Ok,
+  Err,
+  ◌^◌,
+  arith,
+  refl,
+  sym,
+  ap,
+  subst,
+  ◌∙◌,
+}
+use Rattle.live_dispatch.proofs.Common.{
+  Appends,
+  AppendsPart,
+  Batch,
+  BookView,
+  HasCut,
+  LiveFault,
+  OutputsView,
+  ReportFault,
+  Rose,
+  lines_text,
+  entries_lines,
+  notices_from,
+  next_position,
+  Close,
+  Command,
+  Entry,
+  Settings,
+  HaveHeard,
+  Roads,
+  State,
+  entry_text,
+  one-text,
+  step,
+  desk_of,
+  notices_in,
+  text_of,
+}
 use Rattle.dispatch_engine.specs.declared.lanes.locked.LockedReply.{LockedReply}
 use Rattle.dispatch_engine.specs.outcome.Outcome.{IsGoodOutcome}
 use Rattle.live_dispatch.specs.Closing.{BreaksClose, IsClosedBy, IsClosedTo, StopsClose, book_behind, closing_entry}
@@ -24,7 +77,8 @@ none-before e last (x ∷ y ∷ front) is = absurd cc
 one-last : (e last : Entry) → e ∷ [] ≡ last ∷ [] → last ≡ e
 one-last e last is = cc
 
-module _ (settings : Settings) (roads : Roads) (batch : Batch) (outcome : Outcome) (book : BookView) (before : OutputsView) (good : IsGoodOutcome settings roads batch outcome) (none : book.entries ≡ []) (fresh : book.state ≡ book.base) where
+module _ (settings : Settings) (roads : Roads) (batch : Batch) (outcome : Outcome) (book : BookView) (before : OutputsView)
+    (good : IsGoodOutcome settings roads batch outcome) (none : book.entries ≡ []) (fresh : book.state ≡ book.base) where
   abbrev close : Command
   close = Close batch.number outcome
 
@@ -40,7 +94,8 @@ module _ (settings : Settings) (roads : Roads) (batch : Batch) (outcome : Outcom
     entries_are =
         let a : IsApplied book 0 close reply.reply got.book = entered.applied in
         let is : reply.reply ≡ e.reply = ap (λ (p : State × Reply). p.1) a.stepped in
-        a.entries ∙ ap (λ es. es ++ (record { lane = 0; command = close; reply = reply.reply }) ∷ []) none ∙ ap (λ (r : Reply). (record { lane = 0; command = close; reply = r }) ∷ []) is
+        a.entries ∙ ap (λ es. es ++ (record { lane = 0; command = close; reply = reply.reply }) ∷ []) none ∙
+        ap (λ (r : Reply). (record { lane = 0; command = close; reply = r }) ∷ []) is
 
     text_is : (es : List Entry) → lines_text (entries_lines got.proof got.book.first es) ≡ text_of settings.proof book es
     text_is es = λ i. lines_text (entries_lines (entered.proof i) (entered.applied.first i) es)
@@ -51,11 +106,13 @@ module _ (settings : Settings) (roads : Roads) (batch : Batch) (outcome : Outcom
     -- all is written
     whole : got.fault ≡ None → IsClosedBy settings roads batch book before got.now outcome
     whole faultless =
-        let told : IsPassedOn None got.proof got.book got.opened got.now = subst (λ (f : Option ReportFault). IsPassedOn f got.proof got.book got.opened got.now) faultless kept.told in
+        let told : IsPassedOn None got.proof got.book got.opened got.now = subst (λ (f : Option ReportFault). IsPassedOn f got.proof got.book got.opened
+        got.now) faultless kept.told in
         record {
           good = good;
           text = subst (λ (o : OutputsView). Appends o.sink.written got.now.sink.written (text_of settings.proof book (e ∷ []))) entered.opened
-              (subst (λ t. Appends got.opened.sink.written got.now.sink.written t) (text_is got.book.entries ∙ ap (text_of settings.proof book) entries_are) told.0);
+              (subst (λ t. Appends got.opened.sink.written got.now.sink.written t) (text_is got.book.entries ∙ ap (text_of settings.proof book) entries_are)
+              told.0);
           told = subst (λ (o : OutputsView). HaveHeard (notices_in book (e ∷ [])) o.notifiers got.now.notifiers) entered.opened
               (subst (λ ns. HaveHeard ns got.opened.notifiers got.now.notifiers) (notices_are got.book.entries ∙ ap (notices_in book) entries_are) told.1);
         }
@@ -70,7 +127,8 @@ module _ (settings : Settings) (roads : Roads) (batch : Batch) (outcome : Outcom
 
       same_text : entry_text got.proof (next_position got.book.first off.front) off.last ≡ text_of settings.proof book (e ∷ [])
       same_text =
-          (λ i. entry_text got.proof (next_position got.book.first (alone i)) (last_is i)) ∙ ap (λ p. entry_text got.proof p e) (next-none got.book.first kept.first)
+          (λ i. entry_text got.proof (next_position got.book.first (alone i)) (last_is i)) ∙ ap (λ p. entry_text got.proof p e)
+          (next-none got.book.first kept.first)
           ∙ sym (one-text got.proof got.book.first e) ∙ text_is (e ∷ [])
 
       no_text : text_of got.proof got.book off.front ≡ []
@@ -102,7 +160,8 @@ module _ (settings : Settings) (roads : Roads) (batch : Batch) (outcome : Outcom
     off-of fault is = subst (λ (f : Option ReportFault). IsPassedOn f got.proof got.book got.opened got.now) is kept.told
 
     -- why the batch isn't closed
-    stopped : (fault : Option ReportFault) → got.fault ≡ fault → (why : LiveFault) → (why ≡ live.WriteFault → fault ≡ Some WriteFault) → (why ≡ live.ReadFault → ⊥)
+    stopped : (fault : Option ReportFault) → got.fault ≡ fault → (why : LiveFault) → (why ≡ live.WriteFault → fault ≡ Some WriteFault) →
+        (why ≡ live.ReadFault → ⊥)
         → StopsClose settings roads batch book before got.now why
     stopped fault is live.ReadFault write read = absurd (read refl)
     stopped None is live.WriteFault write read = absurd (let e : None ≡ Some WriteFault = write refl in cc)
@@ -114,12 +173,30 @@ module _ (settings : Settings) (roads : Roads) (batch : Batch) (outcome : Outcom
 
     -- the book behind it
     behind : (next : BookView)
-        → next ≡ record { nodes = got.book.nodes; wait = got.book.wait; first = next_position got.book.first got.book.entries; base = got.book.state; entries = []; state = got.book.state; spare = 0 }
+        → next ≡ record {
+          nodes = got.book.nodes;
+          wait = got.book.wait;
+          first = next_position got.book.first got.book.entries;
+          base = got.book.state;
+          entries =
+              [];
+          state = got.book.state;
+          spare = 0;
+        }
         → next ≡ book_behind book e
     behind next is =
         let a : IsApplied book 0 close reply.reply got.book = entered.applied in
         let state : got.book.state ≡ (step book.nodes book.wait book.state close).0 = ap (λ (p : State × Reply). p.0) a.stepped in
-        is ∙ (λ i. record { nodes = a.nodes i; wait = a.wait i; first = next_position (a.first i) (entries_are i); base = state i; entries = []; state = state i; spare = 0 })
+        is ∙ (λ i. record {
+          nodes = a.nodes i;
+          wait = a.wait i;
+          first = next_position (a.first i) (entries_are i);
+          base = state i;
+          entries = [];
+          state =
+              state i;
+          spare = 0;
+        })
 
   -- what came of it, by the parts of the desk
   abbrev cut_of : BookView → BookView
@@ -143,18 +220,21 @@ module _ (settings : Settings) (roads : Roads) (batch : Batch) (outcome : Outcom
             }
 
     pub close-stopped : (why : LiveFault) → HasCut cut next entered fault (Err why) → StopsClose settings roads batch book before now why
-    close-stopped why c = subst (λ (o : OutputsView). StopsClose settings roads batch book before o why) (ap (λ (d : DeskView). d.now) parts) (by entered enters)
+    close-stopped why c = subst (λ (o : OutputsView). StopsClose settings roads batch book before o why) (ap (λ (d : DeskView). d.now) parts)
+        (by entered enters)
       where
         written : why ≡ live.WriteFault → got.fault ≡ Some WriteFault
         written is = ap (λ (d : DeskView). d.fault) parts ∙ c.write_fault (ap Err is)
 
         by : (b : Bool) → HasEnteredOr b desk close got → StopsClose settings roads batch book before got.now why
         by true (reply, had) =
-            stopped got reply (subst (λ (d : DeskView). HasEntered d 0 close reply got) desk_is had) kept got.fault refl why written (λ is. c.no_read (ap Err is))
+            stopped got reply (subst (λ (d : DeskView). HasEntered d 0 close reply got) desk_is had) kept got.fault refl why written
+            (λ is. c.no_read (ap Err is))
         by false same =
             unentered why (subst (λ (d : DeskView). IsSameDesk d got) desk_is same) written (λ is. c.no_read (ap Err is))
 
-        unentered : (f : LiveFault) → IsSameDesk start got → (f ≡ live.WriteFault → got.fault ≡ Some WriteFault) → (f ≡ live.ReadFault → ⊥) → StopsClose settings roads batch book before got.now f
+        unentered : (f : LiveFault) → IsSameDesk start got → (f ≡ live.WriteFault → got.fault ≡ Some WriteFault) → (f ≡ live.ReadFault → ⊥) →
+            StopsClose settings roads batch book before got.now f
         unentered live.ReadFault same write read = absurd (read refl)
         unentered live.WriteFault same write read = absurd (let e : None ≡ Some WriteFault = sym same.fault ∙ write refl in cc)
         unentered live.OutOfMemory same write read = StopsClose.unwritten same.now

@@ -37,7 +37,18 @@ pub use Rattle.live_dispatch.specs.declared.read_on.Halt.{Halt}
 pub use Rattle.live_dispatch.proofs.lemmas.EntryLemmas.{entries-append, lines-append, next-append, next-low, notices-append, one-text, state-append}
 pub use Rattle.live_dispatch.specs.Desk.{IsPassedOn, OutputsView, desk_of, desk_root, entries_text, notices_in, outputs_seen, pass_of, text_of}
 pub use Rattle.live_dispatch.specs.declared.desk.LaneCommand.{LaneCommand}
-pub use Rattle.live_dispatch.specs.Live.{AreWhole, BeginsRows, ButLast, EndsWithin, HasAppended, IsBegunRun, IsRoundBeginning, journals_notices, journals_text, rows_text}
+pub use Rattle.live_dispatch.specs.Live.{
+  AreWhole,
+  BeginsRows,
+  ButLast,
+  EndsWithin,
+  HasAppended,
+  IsBegunRun,
+  IsRoundBeginning,
+  journals_notices,
+  journals_text,
+  rows_text,
+}
 pub use Rattle.live_dispatch.specs.declared.fault.LiveFault.{LiveFault}
 pub use Rattle.live_dispatch.specs.work.Rows.{EndsIn, EndsWith, in_lane, last_of, round_numbers, start_text}
 pub use Rattle.live_dispatch.specs.work.Standing.{

@@ -1,6 +1,42 @@
 -- How a run ends.
 use Rattle.std.proofs.Common.{rules, ◌≡◌, ℕ, ◌≤◌, Bool, List, ◌∷◌, ◌++◌, Option, Some, Result, Ok, Err, refl, sym, ap, subst, arith}
-use Rattle.live_dispatch.proofs.Common.{Appends-trans, Batch, position_after_run, end_text, SinkView, WritesText, ReportFault, AreRows, BeginWithRows, FaultsFrom, TakesRun, all-begin, runs-begin, Halt, IsPassedOn, OutputsView, Rose, BookView, next_position, Settings, Roads, ScriptRow, BeginsRows, LiveFault, HasCut, HasEnded, HasRunOn, HaveCome, Moment, Opens, Stands, ended_by, of_report, outputs_of, row_text}
+use Rattle.live_dispatch.proofs.Common.{
+  Appends-trans,
+  Batch,
+  position_after_run,
+  end_text,
+  SinkView,
+  WritesText,
+  ReportFault,
+  AreRows,
+  BeginWithRows,
+  FaultsFrom,
+  TakesRun,
+  all-begin,
+  runs-begin,
+  Halt,
+  IsPassedOn,
+  OutputsView,
+  Rose,
+  BookView,
+  next_position,
+  Settings,
+  Roads,
+  ScriptRow,
+  BeginsRows,
+  LiveFault,
+  HasCut,
+  HasEnded,
+  HasRunOn,
+  HaveCome,
+  Moment,
+  Opens,
+  Stands,
+  ended_by,
+  of_report,
+  outputs_of,
+  row_text,
+}
 use Rattle.live_dispatch.proofs.StandLemmas.{begins-here, begins-last}
 use Rattle.live_dispatch.proofs.StepLemmas.{batch-begins, batch-stands, lines-behind, row-begins}
 use Rattle.live_dispatch.proofs.WriteLemmas.{whole-some}
@@ -23,8 +59,10 @@ no_read_of report.OutOfMemory e = absurd cc
 module _ (settings : Settings) (roads : Roads) (start : Moment) where
   -- with a fault
   pub begun-ended : (failed : ℕ) (outputs : OutputsView) (fault : LiveFault) (ended : Result (Unit {0}) LiveFault) → ended ≡ Err fault
-      → BeginsRows settings roads start.book start.rows (record { before = start.sink; after = outputs.sink }) (record { before = start.notifiers; after = outputs.notifiers })
-      → (fault ≡ live.WriteFault → Rose start.sink.faults outputs.sink.faults) → (fault ≡ live.ReadFault → Rose start.reads failed) → start.sink.faults ≤ outputs.sink.faults
+      → BeginsRows settings roads start.book start.rows (record { before = start.sink; after = outputs.sink })
+      (record { before = start.notifiers; after = outputs.notifiers })
+      → (fault ≡ live.WriteFault → Rose start.sink.faults outputs.sink.faults) → (fault ≡ live.ReadFault → Rose start.reads failed) →
+      start.sink.faults ≤ outputs.sink.faults
       → HasEnded settings roads start failed outputs ended
   begun-ended failed outputs fault ended is begins write read falls = search rules
 
@@ -34,7 +72,8 @@ module _ (settings : Settings) (roads : Roads) (start : Moment) where
       → (fault ≡ live.WriteFault → ⊥) → (fault ≡ live.ReadFault → Rose start.reads failed) → HasEnded settings roads start failed outputs ended
   stood-ended now Now stands begin failed outputs fault ended is outputs_are no_write read =
       subst (λ (o : OutputsView). HasEnded settings roads start failed o ended) (sym outputs_are)
-      (begun-ended failed (outputs_of now) fault ended is (begins-here settings roads start now Now stands now.sink.faults begin) (λ e. absurd (no_write e)) read stands.writes)
+      (begun-ended failed (outputs_of now) fault ended is (begins-here settings roads start now Now stands now.sink.faults begin) (λ e. absurd (no_write e))
+      read stands.writes)
 
   -- behind the last row
   module _ (now : Moment) (Now : List ScriptRow → Type 0) (stands : Stands settings roads start now Now) (all : AreRows start.rows stands.lines) (failed : ℕ)
@@ -65,12 +104,14 @@ module _ (settings : Settings) (roads : Roads) (start : Moment) where
     by-answer (Err fault) w = part-end fault w
 
     pub all-ended : (outputs : OutputsView) (ended : Result (Unit {0}) LiveFault) → outputs ≡ last
-        → (answer : Result (Unit {0}) ReportFault) × (ended ≡ ended_by answer) × WritesText (record { before = now.sink; after = sink }) (end_text (next_position now.book.first now.book.entries)) answer
+        → (answer : Result (Unit {0}) ReportFault) × (ended ≡ ended_by answer) × WritesText (record { before = now.sink; after = sink })
+        (end_text (next_position now.book.first now.book.entries)) answer
         → HasEnded settings roads start failed outputs ended
     all-ended outputs ended are wrote = search (rules, by-answer)
 
   -- behind a seal, before its batch is solved
-  pub opened-ended : (row : ScriptRow) (b : Batch) (now : Moment) → Opens settings roads start row b now → (failed : ℕ) (outputs : OutputsView) (ended : Result (Unit {0}) LiveFault)
+  pub opened-ended : (row : ScriptRow) (b : Batch) (now : Moment) → Opens settings roads start row b now →
+      (failed : ℕ) (outputs : OutputsView) (ended : Result (Unit {0}) LiveFault)
       → ended ≡ Err live.OutOfMemory → outputs ≡ outputs_of now → HasEnded settings roads start failed outputs ended
   opened-ended row b now opens failed outputs ended is outputs_are =
       let before = opens.before in
@@ -83,7 +124,8 @@ module _ (settings : Settings) (roads : Roads) (start : Moment) where
       (λ e. absurd cc) (λ e. absurd cc) (omega (arith, opens.writes, falls))))
 
   -- behind an open batch
-  module _ (b : Batch) (round : ℕ) (book : BookView) (rows : Option (List ScriptRow)) (outputs : OutputsView) (closed : Bool) (end : Halt) (fault : Option ReportFault) (reads : ℕ)
+  module _ (b : Batch) (round : ℕ) (book : BookView) (rows : Option (List ScriptRow)) (outputs : OutputsView) (closed : Bool) (end : Halt)
+      (fault : Option ReportFault) (reads : ℕ)
       (on : HasRunOn settings roads start b round book rows outputs closed end fault reads) (cut : BookView) where
     start-reads : start.reads ≤ reads
     start-reads = (let were : start.reads ≤ on.opens.before.reads = on.opens.stands.reads in let a = on.opens.same.1 in let c =
@@ -126,7 +168,8 @@ module _ (settings : Settings) (roads : Roads) (start : Moment) where
         batch-stood done count (HaveCome start (behind_it count) (Some row)) has_cut (faults-kept end row reads count is failed)
         (subst (λ e. TakesRun e start.rows rows lines) is (lines-behind settings roads start b round book rows outputs closed end fault reads on))
 
-    pub batch-last : (done : Unit {0}) (failed : ℕ) (last : OutputsView) (ended : Result (Unit {0}) LiveFault) → HasCut book cut closed fault (Ok done) → end ≡ stop.Ended
+    pub batch-last : (done : Unit {0}) (failed : ℕ) (last : OutputsView) (ended : Result (Unit {0}) LiveFault) → HasCut book cut closed fault (Ok done) →
+        end ≡ stop.Ended
         → last.notifiers ≡ outputs.notifiers
         → (answer : Result (Unit {0}) ReportFault) × (ended ≡ ended_by answer) × WritesText (record { before = outputs.sink; after = last.sink })
         (end_text (next_position cut.first cut.entries)) answer
@@ -138,8 +181,10 @@ module _ (settings : Settings) (roads : Roads) (start : Moment) where
         all-ended (behind_it reads) (AreRows start.rows) stands stands.are failed last.sink last ended (λ i. record { sink = last.sink; notifiers = same i })
         wrote
 
-    pub batch-stopped : (done : Unit {0}) (failed : ℕ) (last : OutputsView) (why : LiveFault) (ended : Result (Unit {0}) LiveFault) → HasCut book cut closed fault (Ok done)
-        → ended ≡ Err why → last ≡ outputs → (why ≡ live.WriteFault → ⊥) → (why ≡ live.ReadFault → Rose reads failed) → HasEnded settings roads start failed last ended
+    pub batch-stopped : (done : Unit {0}) (failed : ℕ) (last : OutputsView) (why : LiveFault) (ended : Result (Unit {0}) LiveFault) →
+        HasCut book cut closed fault (Ok done)
+        → ended ≡ Err why → last ≡ outputs → (why ≡ live.WriteFault → ⊥) → (why ≡ live.ReadFault → Rose reads failed) →
+        HasEnded settings roads start failed last ended
     batch-stopped done failed last why ended has_cut ended_is last_is no_write rose =
         let are = runs-begin end start.rows rows lines (lines-behind settings roads start b round book rows outputs closed end fault reads on) in
         let stands = batch-stood done reads (BeginWithRows start.rows) has_cut (omega arith) are in

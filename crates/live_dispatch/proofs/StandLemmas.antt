@@ -1,7 +1,94 @@
 -- What stands of a run after more rows.
 use Rattle.std.proofs.lemmas.Bool.Decides.{nat_tests}
-use Rattle.std.proofs.Common.{rules, ◌≡◌, ℕ, ◌+◌, ◌<◌, ◌≤◌, List, [], ◌∷◌, ◌++◌, codes, length, take, drop, Option, Some, refl, sym, ap, subst, ◌∙◌, append_assoc, append-nil, take-append-drop, length-append, inl, inr, arith}
-use Rattle.live_dispatch.proofs.Common.{Appends, Appends-nil, Appends-trans, AreRows, EndsWithin, take-append-add, take-append_seam, of_lane, IsLaneRun, IsLaneBeginning, ClosesAreGood, IsReady, IsRun, position_after_run, run-more, lines_text, end_text, entries_lines, entry_text, Change, SinkView, numbered, AppendsPart, next_position, state_after, RepliesAreSteps, Entry, Journal, State, Settings, notices_from, HaveHeard, NotifierView, Notice, all-heard-more, Roads, round_of, ScriptRow, rounds_of, BeginWithRows, AreWhole, BeginsRows, ButLast, HasAppended, IsBegunRun, journals_notices, journals_text, rows_text, EndsIn, in_lane, last_of, start_text, Moment, Stands, entries-append, next-low, one-text}
+use Rattle.std.proofs.Common.{
+  rules,
+  ◌≡◌,
+  ℕ,
+  ◌+◌,
+  ◌<◌,
+  ◌≤◌,
+  List,
+  [],
+  ◌∷◌,
+  ◌++◌,
+  codes,
+  length,
+  take,
+  drop,
+  Option,
+  Some,
+  refl,
+  sym,
+  ap,
+  subst,
+  ◌∙◌,
+  append_assoc,
+  append-nil,
+  take-append-drop,
+  length-append,
+  inl,
+  inr,
+  arith,
+}
+use Rattle.live_dispatch.proofs.Common.{
+  Appends,
+  Appends-nil,
+  Appends-trans,
+  AreRows,
+  EndsWithin,
+  take-append-add,
+  take-append_seam,
+  of_lane,
+  IsLaneRun,
+  IsLaneBeginning,
+  ClosesAreGood,
+  IsReady,
+  IsRun,
+  position_after_run,
+  run-more,
+  lines_text,
+  end_text,
+  entries_lines,
+  entry_text,
+  Change,
+  SinkView,
+  numbered,
+  AppendsPart,
+  next_position,
+  state_after,
+  RepliesAreSteps,
+  Entry,
+  Journal,
+  State,
+  Settings,
+  notices_from,
+  HaveHeard,
+  NotifierView,
+  Notice,
+  all-heard-more,
+  Roads,
+  round_of,
+  ScriptRow,
+  rounds_of,
+  BeginWithRows,
+  AreWhole,
+  BeginsRows,
+  ButLast,
+  HasAppended,
+  IsBegunRun,
+  journals_notices,
+  journals_text,
+  rows_text,
+  EndsIn,
+  in_lane,
+  last_of,
+  start_text,
+  Moment,
+  Stands,
+  entries-append,
+  next-low,
+  one-text,
+}
 use Rattle.live_dispatch.proofs.RowLemmas.{AreMore, AreLinesOf, rows-more}
 use Rattle.live_dispatch.proofs.RunLemmas.{HasGrown, has-grown, run-begins, with_more}
 
@@ -11,21 +98,33 @@ pub part-behind : (old new : Option (List ℕ)) (front text : List ℕ) (k : ℕ
 part-behind old new front text k short written = grind (arith, nat_tests, (length-append front text), (take-append-add front text k))
 
 -- bytes that were written end within the first of two texts, which they begin
-ends-before : (sink : Change SinkView) (bytes unwritten first second : List ℕ) (Beyond : Type 0) → bytes ++ unwritten ≡ first → 0 < length second → Appends sink.before.written sink.after.written bytes
+ends-before : (sink : Change SinkView) (bytes unwritten first second : List ℕ) (Beyond : Type 0) → bytes ++ unwritten ≡ first → 0 < length second →
+    Appends sink.before.written sink.after.written bytes
     → EndsWithin sink first second Beyond
 ends-before sink bytes unwritten first second Beyond parts some written =
     let size : length first ≡ length bytes + length unwritten = ap length (sym parts) ∙ length-append bytes unwritten in
     let both : length (first ++ second) ≡ length first + length second = length-append first second in
     let is : take (length bytes) (first ++ second) ≡ bytes =
-    ap (take (length bytes)) (ap (λ t. t ++ second) (sym parts) ∙ append_assoc bytes unwritten second) ∙ take-append_seam bytes (unwritten ++ second) in
-    (length bytes, omega (arith, size, both, some), λ past. absurd (omega (arith, size, past)), subst (λ (l : List ℕ). Appends sink.before.written sink.after.written l) (sym is) written)
+    ap (take (length bytes)) (ap (λ t. t ++ second) (sym parts) ∙ append_assoc bytes unwritten second) ∙ take-append_seam bytes (unwritten ++ second) in (
+      length bytes,
+      omega (arith, size, both, some),
+      λ past. absurd (omega (arith, size, past)),
+      subst
+          (λ (l : List ℕ). Appends sink.before.written sink.after.written l) (sym is) written,
+    )
 
 -- or within the second, behind the first
-ends-behind : (sink : Change SinkView) (first second : List ℕ) (k : ℕ) (Beyond : Type 0) → k < length second → (0 < k → Beyond) → Appends sink.before.written sink.after.written (first ++ take k second)
+ends-behind : (sink : Change SinkView) (first second : List ℕ) (k : ℕ) (Beyond : Type 0) → k < length second → (0 < k → Beyond) →
+    Appends sink.before.written sink.after.written (first ++ take k second)
     → EndsWithin sink first second Beyond
 ends-behind sink first second k Beyond short beyond written =
-    let both : length (first ++ second) ≡ length first + length second = length-append first second in
-    (length first + k, omega (arith, both, short), λ past. beyond (omega (arith, past)), subst (λ (l : List ℕ). Appends sink.before.written sink.after.written l) (sym (take-append-add first second k)) written)
+    let both : length (first ++ second) ≡ length first + length second = length-append first second in (
+      length first + k,
+      omega (arith, both, short),
+      λ past. beyond (omega (arith, past)),
+      subst
+          (λ (l : List ℕ). Appends sink.before.written sink.after.written l) (sym (take-append-add first second k)) written,
+    )
 
 pub end-some : (n : ℕ) → 0 < length (end_text n)
 unfolding end_text lines_text
@@ -127,7 +226,8 @@ module _ (settings : Settings) (roads : Roads) (start before : Moment) (Before :
           journals = whole_of es;
           run = subst (λ rs. IsBegunRun settings roads start.book.base start.book.first rs (whole_of es)) (sym grown.rounds)
               (IsBegunRun.some grown.fronts grown.done (round_of all number) (with_more grown.front es) grown.run grown.base grown.first (grown.begun lanes));
-          text = ends-before sinks bytes unwritten all_text end _ (parts ∙ sym (whole-text es)) (end-some (position_after_run start.book.first (whole_of es))) appended;
+          text = ends-before sinks bytes unwritten all_text end _ (parts ∙ sym (whole-text es)) (end-some (position_after_run start.book.first (whole_of es)))
+              appended;
           whole = whole;
           are_whole = are_whole;
           written = has;
@@ -223,14 +323,17 @@ module _ (settings : Settings) (roads : Roads) (start now : Moment) (Now : List 
       Appends start.sink.written written (lines_text_is ++ take part.0 last_line)
   wrote written part = Appends-trans start.sink.written now.sink.written written lines_text_is (take part.0 last_line) stands.text part.2
 
-  pub begins-last : (written : Option (List ℕ)) (faults : ℕ) → BeginWithRows start.rows stands.lines → (part : AppendsPart now.sink.written written last_line) → (0 < part.0 → AreRows start.rows stands.lines)
-      → BeginsRows settings roads start.book start.rows (record { before = start.sink; after = record { written = written; faults = faults } }) (record { before = start.notifiers; after = now.notifiers })
+  pub begins-last : (written : Option (List ℕ)) (faults : ℕ) → BeginWithRows start.rows stands.lines → (part : AppendsPart now.sink.written written last_line) →
+      (0 < part.0 → AreRows start.rows stands.lines)
+      → BeginsRows settings roads start.book start.rows (record { before = start.sink; after = record { written = written; faults = faults } })
+      (record { before = start.notifiers; after = now.notifiers })
   begins-last written faults begin part all = record {
     lines = stands.lines;
     begin = begin;
     journals = stands.journals;
     run = begun;
-    text = ends-behind (record { before = start.sink; after = record { written = written; faults = faults } }) lines_text_is last_line part.0 _ part.1 (λ some. (all some, stands.run)) (wrote written part);
+    text = ends-behind (record { before = start.sink; after = record { written = written; faults = faults } }) lines_text_is last_line part.0 _ part.1
+        (λ some. (all some, stands.run)) (wrote written part);
     whole = stands.journals;
     are_whole = inl refl;
     written = (take part.0 last_line, wrote written part);
@@ -238,5 +341,11 @@ module _ (settings : Settings) (roads : Roads) (start now : Moment) (Now : List 
   }
 
   pub begins-here : (faults : ℕ) → BeginWithRows start.rows stands.lines
-      → BeginsRows settings roads start.book start.rows (record { before = start.sink; after = record { written = now.sink.written; faults = faults } }) (record { before = start.notifiers; after = now.notifiers })
-  begins-here faults begin = begins-last now.sink.written faults begin (0, end-some (position_after_run start.book.first stands.journals), Appends-nil now.sink.written) (λ some. absurd (omega (arith, some)))
+      → BeginsRows settings roads start.book start.rows (record { before = start.sink; after = record { written = now.sink.written; faults = faults } })
+      (record { before = start.notifiers; after = now.notifiers })
+  begins-here faults begin = begins-last now.sink.written faults begin (
+    0,
+    end-some (position_after_run start.book.first stands.journals),
+    Appends-nil
+        now.sink.written,
+  ) (λ some. absurd (omega (arith, some)))

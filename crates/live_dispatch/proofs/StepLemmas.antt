@@ -1,6 +1,108 @@
 -- What stands after a row, and after an open batch.
-use Rattle.std.proofs.Common.{rules, ◌≡◌, ◌≢◌, ℕ, ◌<◌, ◌≤◌, Bool, true, false, cond, eqb, List, [], ◌∷◌, ◌++◌, length, map, take, Option, None, Some, refl, sym, ap, subst, ◌∙◌, append_assoc, append-nil, arith, option_map}
-use Rattle.live_dispatch.proofs.Common.{Appends, Appends-trans, Batch, of_lane, IsLaneRunFrom, IsLaneRun, IsLaneBeginning, ClosesAreGood, IsReady, ends-closed, stands-plain, lines_text, entries_lines, entry_text, ReportFault, BeginWithRows, ClosesBatch, TakesRun, commands_of_pass, desk_after, runs-begin, runs-more, takes-start, Halt, IsPassedOn, OutputsView, desk_of, desk_root, entries_text, notices_in, text_of, LaneCommand, TakesRows, BookView, next_position, state_after, RepliesAreSteps, step, Command, Close, Entry, Reply, State, Settings, notices_from, HaveHeard, Notice, all-heard-nothing, Roads, IsBehind, ScriptRow, sealed_by, step-seals, BeginsRows, in_lane, last_of, start_text, AppendsSome, HasRunOn, HasTaken, HaveCome, Moment, Stands, entry_for, outputs_of, row_text, entries-append, next-append, next-low, one-text}
+use Rattle.std.proofs.Common.{
+  rules,
+  ◌≡◌,
+  ◌≢◌,
+  ℕ,
+  ◌<◌,
+  ◌≤◌,
+  Bool,
+  true,
+  false,
+  cond,
+  eqb,
+  List,
+  [],
+  ◌∷◌,
+  ◌++◌,
+  length,
+  map,
+  take,
+  Option,
+  None,
+  Some,
+  refl,
+  sym,
+  ap,
+  subst,
+  ◌∙◌,
+  append_assoc,
+  append-nil,
+  arith,
+  option_map,
+}
+use Rattle.live_dispatch.proofs.Common.{
+  Appends,
+  Appends-trans,
+  Batch,
+  of_lane,
+  IsLaneRunFrom,
+  IsLaneRun,
+  IsLaneBeginning,
+  ClosesAreGood,
+  IsReady,
+  ends-closed,
+  stands-plain,
+  lines_text,
+  entries_lines,
+  entry_text,
+  ReportFault,
+  BeginWithRows,
+  ClosesBatch,
+  TakesRun,
+  commands_of_pass,
+  desk_after,
+  runs-begin,
+  runs-more,
+  takes-start,
+  Halt,
+  IsPassedOn,
+  OutputsView,
+  desk_of,
+  desk_root,
+  entries_text,
+  notices_in,
+  text_of,
+  LaneCommand,
+  TakesRows,
+  BookView,
+  next_position,
+  state_after,
+  RepliesAreSteps,
+  step,
+  Command,
+  Close,
+  Entry,
+  Reply,
+  State,
+  Settings,
+  notices_from,
+  HaveHeard,
+  Notice,
+  all-heard-nothing,
+  Roads,
+  IsBehind,
+  ScriptRow,
+  sealed_by,
+  step-seals,
+  BeginsRows,
+  in_lane,
+  last_of,
+  start_text,
+  AppendsSome,
+  HasRunOn,
+  HasTaken,
+  HaveCome,
+  Moment,
+  Stands,
+  entry_for,
+  outputs_of,
+  row_text,
+  entries-append,
+  next-append,
+  next-low,
+  one-text,
+}
 use Rattle.live_dispatch.specs.declared.desk.DeskRoot.{DeskRoot}
 use Rattle.live_dispatch.proofs.BatchLemmas.{
   batch-begun,
@@ -163,7 +265,8 @@ module _ (settings : Settings) (roads : Roads) where
         row-begins-by written faults some some.unwritten refl
 
   -- a batch from its seal on
-  module _ (start : Moment) (b : Batch) (round : ℕ) (book : BookView) (rows : Option (List ScriptRow)) (outputs : OutputsView) (closed : Bool) (end : Halt) (fault : Option ReportFault) (reads : ℕ)
+  module _ (start : Moment) (b : Batch) (round : ℕ) (book : BookView) (rows : Option (List ScriptRow)) (outputs : OutputsView) (closed : Bool) (end : Halt)
+      (fault : Option ReportFault) (reads : ℕ)
       (on : HasRunOn settings roads start b round book rows outputs closed end fault reads) where
     abbrev before : Moment
     before = on.opens.before
@@ -330,7 +433,8 @@ module _ (settings : Settings) (roads : Roads) where
         (subst (λ (t : List ℕ). Appends before.sink.written now.sink.written t) (text-is es)
         (subst (λ (o : OutputsView). Appends before.sink.written o.sink.written (front ++ entries_text settings.proof book)) (sym outputs_are)
         (Appends-trans before.sink.written on.sealed.sink.written outputs.sink.written front (entries_text settings.proof book) on.opens.text wrote.0)))
-        (subst (λ (o : OutputsView). HaveHeard (notices_from roads.nodes settings.wait before.book.state (first ∷ es)) before.notifiers o.notifiers) (sym outputs_are) (heard-before es wrote.1))
+        (subst (λ (o : OutputsView). HaveHeard (notices_from roads.nodes settings.wait before.book.state (first ∷ es)) before.notifiers o.notifiers)
+        (sym outputs_are) (heard-before es wrote.1))
         (subst (λ (o : OutputsView). before.sink.faults ≤ o.sink.faults) (sym outputs_are) (omega (arith, were, falls)))
         (omega (arith, failed, on.reads_were, on.opens.same.1))
 

@@ -1,6 +1,48 @@
 -- From one row to the next.
 use Rattle.std.proofs.Common.{rules, ◌≡◌, ℕ, ◌<◌, ◌≤◌, ◌^◌, Bool, List, [], ◌∷◌, ◌++◌, Option, None, Some, Result, Ok, Err, refl, sym, ap, subst, ◌∙◌, arith}
-use Rattle.live_dispatch.proofs.Common.{Appends-nil, Batch, IsReady, SinkView, OutputsView, ReportFault, AreRows, BeginWithRows, takes-all, takes-begin, takes-more, takes-none, takes-start, TakesRows, Rose, IsBook, next_position, state_after, Entry, Settings, all-heard-nothing, Roads, IsBehind, ScriptRow, LiveFault, EndsIn, last_of, AppendsSome, Awaits, GivesNext, HasEnded, HasTaken, HaveCome, Moment, Opens, Stands, WritesSome, of_line, of_report, outputs_of, row_text}
+use Rattle.live_dispatch.proofs.Common.{
+  Appends-nil,
+  Batch,
+  IsReady,
+  SinkView,
+  OutputsView,
+  ReportFault,
+  AreRows,
+  BeginWithRows,
+  takes-all,
+  takes-begin,
+  takes-more,
+  takes-none,
+  takes-start,
+  TakesRows,
+  Rose,
+  IsBook,
+  next_position,
+  state_after,
+  Entry,
+  Settings,
+  all-heard-nothing,
+  Roads,
+  IsBehind,
+  ScriptRow,
+  LiveFault,
+  EndsIn,
+  last_of,
+  AppendsSome,
+  Awaits,
+  GivesNext,
+  HasEnded,
+  HasTaken,
+  HaveCome,
+  Moment,
+  Opens,
+  Stands,
+  WritesSome,
+  of_line,
+  of_report,
+  outputs_of,
+  row_text,
+}
 use Rattle.input_rows.specs.declared.live.lines.LineFault.{LineFault}
 use Rattle.live_dispatch.proofs.EndLemmas.{begun-ended, no_read_of, stood-ended, write_of}
 use Rattle.live_dispatch.proofs.StepLemmas.{row-begins}
@@ -58,15 +100,18 @@ module _ (settings : Settings) (roads : Roads) (start : Moment) where
       (next-none start now held later.rows stands.lines stands.are gives)
 
   -- a read failed, or there was no memory for a row
-  pub unread-ended : (now : Moment) (held : Option ScriptRow) → Stands settings roads start now (HaveCome start now held) → (fault : LineFault) (failed : ℕ) (outputs : OutputsView) (why : LiveFault) (ended : Result (Unit {0}) LiveFault)
-      → ended ≡ Err why → why ≡ of_line fault → outputs ≡ outputs_of now → (fault ≡ line.ReadFault → Rose now.reads failed) → HasEnded settings roads start failed outputs ended
+  pub unread-ended : (now : Moment) (held : Option ScriptRow) → Stands settings roads start now (HaveCome start now held) →
+      (fault : LineFault) (failed : ℕ) (outputs : OutputsView) (why : LiveFault) (ended : Result (Unit {0}) LiveFault)
+      → ended ≡ Err why → why ≡ of_line fault → outputs ≡ outputs_of now → (fault ≡ line.ReadFault → Rose now.reads failed) →
+      HasEnded settings roads start failed outputs ended
   unread-ended now held stands fault failed outputs why ended is why_is outputs_are rose =
       stood-ended settings roads start now (HaveCome start now held) stands (come-begin start now held stands.lines stands.are) failed outputs (of_line fault)
       ended (is ∙ ap Err why_is) outputs_are
       (line-write fault) (λ e. (let risen : Rose now.reads failed = rose (line-read fault e) in let were = stands.reads in omega (arith, risen, were)))
 
   -- no more rows can be counted
-  pub counted-ended : (now : Moment) (held : Option ScriptRow) → Stands settings roads start now (HaveCome start now held) → (failed : ℕ) (outputs : OutputsView) (ended : Result (Unit {0}) LiveFault) → ended ≡ Err live.OutOfMemory → outputs ≡ outputs_of now
+  pub counted-ended : (now : Moment) (held : Option ScriptRow) → Stands settings roads start now (HaveCome start now held) →
+      (failed : ℕ) (outputs : OutputsView) (ended : Result (Unit {0}) LiveFault) → ended ≡ Err live.OutOfMemory → outputs ≡ outputs_of now
       → HasEnded settings roads start failed outputs ended
   counted-ended now held stands failed outputs ended is outputs_are =
       stood-ended settings roads start now (HaveCome start now held) stands (come-begin start now held stands.lines stands.are) failed outputs live.OutOfMemory
@@ -76,7 +121,8 @@ module _ (settings : Settings) (roads : Roads) (start : Moment) where
   pub row-ended : (now : Moment) (row : ScriptRow) → Stands settings roads start now (HaveCome start now (Some row)) → IsBehind (last_of now.round) row →
       (proof : Bool) → proof ≡ settings.proof → (A : Type 0) (fault : ReportFault) (later : SinkView)
       → WritesSome {A = A} (record { before = now.sink; after = later }) (row_text proof now.round now.book row) (Err fault)
-      → (failed : ℕ) (outputs : OutputsView) (why : LiveFault) (ended : Result (Unit {0}) LiveFault) → ended ≡ Err why → why ≡ of_report fault → outputs ≡ record { sink = later; notifiers = now.notifiers } → HasEnded settings roads start failed outputs ended
+      → (failed : ℕ) (outputs : OutputsView) (why : LiveFault) (ended : Result (Unit {0}) LiveFault) → ended ≡ Err why → why ≡ of_report fault →
+      outputs ≡ record { sink = later; notifiers = now.notifiers } → HasEnded settings roads start failed outputs ended
   row-ended now row stands behind proof proof_is A fault later wrote failed outputs why ended is why_is outputs_are =
       let falls : now.sink.faults ≤ later.faults = wrote.never_falls in
       let were : start.sink.faults ≤ now.sink.faults = stands.writes in

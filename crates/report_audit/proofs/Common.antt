@@ -140,7 +140,25 @@ pub use Rattle.plan_rules.specs.declared.node.Node.{Node}
 pub use Rattle.report_audit.specs.lines.Order.{follow_on, is_between, kind_place, last_place, may_follow_at}
 pub use Rattle.dispatch_report.specs.Block.{block_line_text, block_lines, late_as_line, lines_of, pair_line, row_as_line, stop_text, tree_line, trip_as_line}
 pub use Rattle.dispatch_report.specs.declared.block_line.BlockLine.{BlockLine}
-pub use Rattle.dispatch_report.specs.declared.block_line.BlockLine.TheVariants.{Alone, Bound, Branch, Cost, Dead, End, Expired, Lapsed, Late, Leaf, Move, Nodes, Out, Overflow, TripRow, Shared, Trip}
+pub use Rattle.dispatch_report.specs.declared.block_line.BlockLine.TheVariants.{
+  Alone,
+  Bound,
+  Branch,
+  Cost,
+  Dead,
+  End,
+  Expired,
+  Lapsed,
+  Late,
+  Leaf,
+  Move,
+  Nodes,
+  Out,
+  Overflow,
+  TripRow,
+  Shared,
+  Trip,
+}
 pub use Rattle.dispatch_report.specs.declared.block_line.LateText.{LateText}
 pub use Rattle.dispatch_report.specs.declared.block_line.TripRowText.{TripRowText}
 pub use Rattle.dispatch_report.specs.declared.block_line.TripText.{TripText}

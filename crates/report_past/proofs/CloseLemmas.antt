@@ -40,7 +40,8 @@ unfolding round_text
 round_last number proof j e low =
     let line : List (List ℕ) = numbered (codes "round ") number ∷ [] in
     lines-append line (entries_lines proof j.first (j.entries ++ e ∷ []))
-    ∙ ap (λ t. lines_text line ++ t) (entries-append proof j.first j.entries (e ∷ []) low ∙ ap (λ t. lines_text (entries_lines proof j.first j.entries) ++ t) (one-text proof (next_position j.first j.entries) e))
+    ∙ ap (λ t. lines_text line ++ t) (entries-append proof j.first j.entries (e ∷ []) low ∙
+    ap (λ t. lines_text (entries_lines proof j.first j.entries) ++ t) (one-text proof (next_position j.first j.entries) e))
     ∙ sym (append_assoc (lines_text line) (lines_text (entries_lines proof j.first j.entries)) (entry_text proof (next_position j.first j.entries) e))
     ∙ ap (λ t. t ++ entry_text proof (next_position j.first j.entries) e) (sym (lines-append line (entries_lines proof j.first j.entries)))
 
@@ -52,40 +53,48 @@ module _ (settings : Settings) (roads : Roads) where
   has_some s [] b none is = let no : None ≡ Some b = sym none ∙ is in absurd cc
   has_some s (j ∷ js) b none is = tt
 
-  pub state_last : (s : State) (js : List Journal) (e : Entry) → Has js → state_after_run settings roads s (with_last e js) ≡ (step roads.nodes settings.wait (state_after_run settings roads s js) e.command).0
+  pub state_last : (s : State) (js : List Journal) (e : Entry) → Has js → state_after_run settings roads s (with_last e js) ≡
+      (step roads.nodes settings.wait (state_after_run settings roads s js) e.command).0
   unfolding state_after
   state_last s [] e has = absurd has
   state_last s (j ∷ []) e has = state-append roads.nodes settings.wait s j.entries (e ∷ [])
   state_last s (j ∷ k ∷ js) e has = state_last (state_after roads.nodes settings.wait s j.entries) (k ∷ js) e tt
 
-  pub closes_push : (s : State) (es : List Entry) (e : Entry) → ClosesAreGood settings roads s es → IsGoodClose settings roads (state_after roads.nodes settings.wait s es) e.command e.reply
+  pub closes_push : (s : State) (es : List Entry) (e : Entry) → ClosesAreGood settings roads s es →
+      IsGoodClose settings roads (state_after roads.nodes settings.wait s es) e.command e.reply
       → ClosesAreGood settings roads s (es ++ e ∷ [])
   unfolding ClosesAreGood state_after
   closes_push s [] e good is = (is, tt)
   closes_push s (x ∷ es) e good is = (good.0, closes_push (step roads.nodes settings.wait s x.command).0 es e good.1 is)
 
-  pub good_last : (s : State) (p : ℕ) (rs : List NumberedLanes) (js : List Journal) (e : Entry) → IsToldRun settings roads s p rs (with_last e js) → PastIsGood settings roads js
+  pub good_last : (s : State) (p : ℕ) (rs : List NumberedLanes) (js : List Journal) (e : Entry) → IsToldRun settings roads s p rs (with_last e js) →
+      PastIsGood settings roads js
       → IsGoodClose settings roads (state_after_run settings roads s js) e.command e.reply → PastIsGood settings roads (with_last e js)
   good_last s p rs [] e told good is = All-nil Good
   good_last s p [] (j ∷ []) e told good is = absurd told
   good_last s p [] (j ∷ k ∷ js) e told good is = absurd told
   good_last s p (r ∷ rs) (j ∷ []) e told good is =
       All-cons Good (record j { entries = j.entries ++ e ∷ [] }) []
-      (closes_push j.base j.entries e (All-head Good j [] good) (subst (λ t. IsGoodClose settings roads (state_after roads.nodes settings.wait t j.entries) e.command e.reply) (sym told.0) is)) (All-nil Good)
+      (closes_push j.base j.entries e (All-head Good j [] good)
+      (subst (λ t. IsGoodClose settings roads (state_after roads.nodes settings.wait t j.entries) e.command e.reply) (sym told.0) is)) (All-nil Good)
   good_last s p (r ∷ rs) (j ∷ k ∷ js) e told good is =
       All-cons Good j (with_last e (k ∷ js)) (All-head Good j (k ∷ js) good)
       (good_last (state_after roads.nodes settings.wait s j.entries) (next_position p j.entries) rs (k ∷ js) e told.3 (All-tail Good j (k ∷ js) good) is)
 
-  pub text_last : (proof : Bool) (s : State) (p : ℕ) (rs : List NumberedLanes) (js : List Journal) (e : Entry) → p < 2 ^ 64 → Has js → IsToldRun settings roads s p rs (with_last e js)
+  pub text_last : (proof : Bool) (s : State) (p : ℕ) (rs : List NumberedLanes) (js : List Journal) (e : Entry) → p < 2 ^ 64 → Has js →
+      IsToldRun settings roads s p rs (with_last e js)
       → journals_text proof rs (with_last e js) ≡ journals_text proof rs js ++ entry_text proof (position_after_run p js) e
   text_last proof s p rs [] e low has told = absurd has
   text_last proof s p [] (j ∷ []) e low has told = absurd told
   text_last proof s p [] (j ∷ k ∷ js) e low has told = absurd told
   text_last proof s p (r ∷ []) (j ∷ []) e low has told =
-      append-nil (round_text r.number proof (record j { entries = j.entries ++ e ∷ [] })) ∙ round_last r.number proof j e (subst (λ q. q < 2 ^ 64) (sym told.1) low)
-      ∙ ap (λ q. round_text r.number proof j ++ entry_text proof (next_position q j.entries) e) told.1 ∙ ap (λ t. t ++ entry_text proof (next_position p j.entries) e) (sym (append-nil (round_text r.number proof j)))
+      append-nil (round_text r.number proof (record j { entries = j.entries ++ e ∷ [] })) ∙
+      round_last r.number proof j e (subst (λ q. q < 2 ^ 64) (sym told.1) low)
+      ∙ ap (λ q. round_text r.number proof j ++ entry_text proof (next_position q j.entries) e) told.1 ∙
+      ap (λ t. t ++ entry_text proof (next_position p j.entries) e) (sym (append-nil (round_text r.number proof j)))
   text_last proof s p (r ∷ q ∷ rs) (j ∷ []) e low has told = absurd told.3
   text_last proof s p (r ∷ rs) (j ∷ k ∷ js) e low has told =
       ap (λ t. round_text r.number proof j ++ t)
       (text_last proof (state_after roads.nodes settings.wait s j.entries) (next_position p j.entries) rs (k ∷ js) e (next-low p j.entries) tt told.3)
-      ∙ sym (append_assoc (round_text r.number proof j) (journals_text proof rs (k ∷ js)) (entry_text proof (position_after_run (next_position p j.entries) (k ∷ js)) e))
+      ∙ sym (append_assoc (round_text r.number proof j) (journals_text proof rs (k ∷ js)) (entry_text proof
+      (position_after_run (next_position p j.entries) (k ∷ js)) e))

@@ -1,5 +1,37 @@
 -- Lines of a text, and which of them are whole.
-use Rattle.std.proofs.Common.{◌≡◌, ◌≢◌, ℕ, ◌+◌, ◌-◌, ◌≤◌, ◌<◌, Bool, true, false, not, ◌==◌, ◌&&◌, List, [], ◌∷◌, ◌++◌, length, take, drop, refl, sym, ap, subst, ◌∙◌, append_assoc, append-nil, length-append, take-append-drop, arith, rules}
+use Rattle.std.proofs.Common.{
+  ◌≡◌,
+  ◌≢◌,
+  ℕ,
+  ◌+◌,
+  ◌-◌,
+  ◌≤◌,
+  ◌<◌,
+  Bool,
+  true,
+  false,
+  not,
+  ◌==◌,
+  ◌&&◌,
+  List,
+  [],
+  ◌∷◌,
+  ◌++◌,
+  length,
+  take,
+  drop,
+  refl,
+  sym,
+  ap,
+  subst,
+  ◌∙◌,
+  append_assoc,
+  append-nil,
+  length-append,
+  take-append-drop,
+  arith,
+  rules,
+}
 use Rattle.std.proofs.lemmas.Bool.Decides.{nat_tests}
 use Rattle.std.proofs.lemmas.Bool.{and_parts, and_from}
 use Rattle.std.proofs.lemmas.List.{length-take-le}
@@ -50,7 +82,8 @@ unfolding after_lines
 after-append i [] ys = refl
 after-append i (x ∷ xs) ys = after-append (after_line i x) xs ys
 
-inside-push : (i : Bool) (xs : List (List ℕ)) (x : List ℕ) → are_inside i xs ≡ true → after_line (after_lines i xs) x ≡ true → are_inside i (xs ++ x ∷ []) ≡ true
+inside-push : (i : Bool) (xs : List (List ℕ)) (x : List ℕ) → are_inside i xs ≡ true → after_line (after_lines i xs) x ≡ true →
+    are_inside i (xs ++ x ∷ []) ≡ true
 unfolding are_inside after_lines
 inside-push i [] x h now = and_from (after_line i x) true now refl
 inside-push i (y ∷ ys) x h now =
@@ -70,7 +103,8 @@ unfolding are_inside
 inside_more i x xs h = and_parts (after_line i x) (are_inside (after_line i x) xs) h
 
 -- the first lines of equal texts are the same
-same_first : (m x : List ℕ) (ms xs : List (List ℕ)) (s r : List ℕ) → One m → One x → lines_text (m ∷ ms) ++ s ≡ lines_text (x ∷ xs) ++ r → (m ≡ x) × (lines_text ms ++ s ≡ lines_text xs ++ r)
+same_first : (m x : List ℕ) (ms xs : List (List ℕ)) (s r : List ℕ) → One m → One x → lines_text (m ∷ ms) ++ s ≡ lines_text (x ∷ xs) ++ r →
+    (m ≡ x) × (lines_text ms ++ s ≡ lines_text xs ++ r)
 same_first m x ms xs s r om ox e = cut_once m x (lines_text ms ++ s) (lines_text xs ++ r) om ox (sym (first_line m ms s) ∙ e ∙ first_line x xs r)
 
 no_more : (m : List ℕ) (ms : List (List ℕ)) (s r : List ℕ) → is_one_line r ≡ true → lines_text (m ∷ ms) ++ s ≡ r → ⊥
@@ -88,7 +122,8 @@ no_end (x ∷ xs) (m ∷ ms) r s i ox om one on h e done =
     (ap (λ l. after_lines (after_line i l) ms) (sym same.0) ∙ sym (after_more i m ms) ∙ done)
 
 -- a whole beginning isn't longer than the whole lines
-pub whole_le : (xs os ms : List (List ℕ)) (r s : List ℕ) (i : Bool) → All One xs → All One os → All One ms → is_one_line r ≡ true → after_lines i xs ≡ false → are_inside false os ≡ true
+pub whole_le : (xs os ms : List (List ℕ)) (r s : List ℕ) (i : Bool) → All One xs → All One os → All One ms → is_one_line r ≡ true → after_lines i xs ≡ false →
+    are_inside false os ≡ true
     → lines_text ms ++ s ≡ lines_text xs ++ (lines_text os ++ r) → after_lines i ms ≡ false → length (lines_text ms) ≤ length (lines_text xs)
 unfolding lines_text
 whole_le xs os [] r s i ox oo om one off h e done = omega arith
@@ -102,15 +137,24 @@ whole_le [] (o ∷ os) (m ∷ ms) r s i ox oo om one off h e done =
     (ap (λ l. after_lines (after_line false l) ms) (sym same.0) ∙ ap (λ j. after_lines (after_line j m) ms) (sym is_off) ∙ sym (after_more i m ms) ∙ done))
 whole_le (x ∷ xs) os (m ∷ ms) r s i ox oo om one off h e done =
     let same = same_first m x ms xs s (lines_text os ++ r) (All-head One m ms om) (All-head One x xs ox)
-        (e ∙ first_line x xs (lines_text os ++ r) ∙ sym (first_line x xs (lines_text os ++ r))) in
+    (e ∙ first_line x xs (lines_text os ++ r) ∙ sym (first_line x xs (lines_text os ++ r))) in
     let less =
-        whole_le xs os ms r s (after_line i x) (All-tail One x xs ox) oo (All-tail One m ms om) one (sym (after_more i x xs) ∙ off) h same.1
-        (ap (λ l. after_lines (after_line i l) ms) (sym same.0) ∙ sym (after_more i m ms) ∙ done)
+    whole_le xs os ms r s (after_line i x) (All-tail One x xs ox) oo (All-tail One m ms om) one (sym (after_more i x xs) ∙ off) h same.1
+    (ap (λ l. after_lines (after_line i l) ms) (sym same.0) ∙ sym (after_more i m ms) ∙ done)
     in
-    omega (arith, less, ap length same.0, length-append (m ++ 10 ∷ []) (lines_text ms), length-append (x ++ 10 ∷ []) (lines_text xs), length-append m (10 ∷ []), length-append x (10 ∷ []))
+    omega (
+      arith,
+      less,
+      ap length same.0,
+      length-append (m ++ 10 ∷ []) (lines_text ms),
+      length-append (x ++ 10 ∷ []) (lines_text xs),
+      length-append m (10 ∷ []),
+      length-append x (10 ∷ []),
+    )
 
 -- one line more was walked through, and a block is open behind it
-pub walk_on : (text rest line after : List ℕ) (inside now : Bool) (kept : ℕ) → Walked text rest inside kept → rest ≡ line ++ 10 ∷ after → One line → now ≡ after_line inside line → now ≡ true → Walked text after now kept
+pub walk_on : (text rest line after : List ℕ) (inside now : Bool) (kept : ℕ) → Walked text rest inside kept → rest ≡ line ++ 10 ∷ after → One line →
+    now ≡ after_line inside line → now ≡ true → Walked text after now kept
 walk_on text rest line after inside now kept w cut one is on =
     let was = ap (λ b. after_line b line) (sym w.inside_is) ∙ sym is in
     record {
@@ -118,10 +162,12 @@ walk_on text rest line after inside now kept w cut one is on =
       others = w.others ++ line ∷ [];
       ones = w.ones;
       other_ones = All-push One w.others line w.other_ones one;
-      printed = w.printed ∙ ap (λ t. lines_text w.whole ++ (lines_text w.others ++ t)) (cut ∙ sym (one_text line after)) ∙ ap (λ t. lines_text w.whole ++ t) (sym (text-append w.others (line ∷ []) after));
+      printed = w.printed ∙ ap (λ t. lines_text w.whole ++ (lines_text w.others ++ t)) (cut ∙ sym (one_text line after)) ∙
+          ap (λ t. lines_text w.whole ++ t) (sym (text-append w.others (line ∷ []) after));
       closed = w.closed;
       kept_is = w.kept_is;
-      inside_is = sym (after-append false w.others (line ∷ []) ∙ after_more (after_lines false w.others) line [] ∙ after_none (after_line (after_lines false w.others) line) ∙ was);
+      inside_is = sym (after-append false w.others (line ∷ []) ∙ after_more (after_lines false w.others) line [] ∙
+          after_none (after_line (after_lines false w.others) line) ∙ was);
       still = inside-push false w.others line w.still (was ∙ on);
     }
 
@@ -133,13 +179,15 @@ length_of_front : (text front rest : List ℕ) → text ≡ front ++ rest → le
 length_of_front text front rest e = omega (arith, ap length e, length-append front rest)
 
 -- one line more was walked through, and all are whole behind it
-pub walk_whole : (text rest line after : List ℕ) (inside now : Bool) (kept : ℕ) → Walked text rest inside kept → rest ≡ line ++ 10 ∷ after → One line → now ≡ after_line inside line → now ≡ false → Walked text after now (length text - length after)
+pub walk_whole : (text rest line after : List ℕ) (inside now : Bool) (kept : ℕ) → Walked text rest inside kept → rest ≡ line ++ 10 ∷ after → One line →
+    now ≡ after_line inside line → now ≡ false → Walked text after now (length text - length after)
 walk_whole text rest line after inside now kept w cut one is off =
     let was = ap (λ b. after_line b line) (sym w.inside_is) ∙ sym is in
     let more : List (List ℕ) = w.others ++ line ∷ [] in
     let printed : text ≡ lines_text (w.whole ++ more) ++ after =
-        w.printed ∙ ap (λ t. lines_text w.whole ++ (lines_text w.others ++ t)) (cut ∙ sym (one_text line after)) ∙ ap (λ t. lines_text w.whole ++ t) (sym (text-append w.others (line ∷ []) after))
-        ∙ sym (text-append w.whole more after)
+    w.printed ∙ ap (λ t. lines_text w.whole ++ (lines_text w.others ++ t)) (cut ∙ sym (one_text line after)) ∙
+    ap (λ t. lines_text w.whole ++ t) (sym (text-append w.others (line ∷ []) after))
+    ∙ sym (text-append w.whole more after)
     in
     record {
       whole = w.whole ++ more;
@@ -148,7 +196,8 @@ walk_whole text rest line after inside now kept w cut one is off =
       other_ones = All-nil One;
       printed = printed ∙ ap (λ t. lines_text (w.whole ++ more) ++ t) (sym (no_text after));
       closed =
-          after-append false w.whole more ∙ ap (λ b. after_lines b more) w.closed ∙ after-append false w.others (line ∷ []) ∙ after_more (after_lines false w.others) line []
+          after-append false w.whole more ∙ ap (λ b. after_lines b more) w.closed ∙ after-append false w.others (line ∷ []) ∙
+          after_more (after_lines false w.others) line []
           ∙ after_none (after_line (after_lines false w.others) line) ∙ was ∙ off;
       kept_is = length_of_front text (lines_text (w.whole ++ more)) after printed;
       inside_is = off ∙ sym (after_none false);
@@ -156,7 +205,8 @@ walk_whole text rest line after inside now kept w cut one is off =
     }
 
 -- what was walked through to its end is whole as far as it can be
-pub walked_out : (text rest : List ℕ) (inside : Bool) (kept m : ℕ) → Walked text rest inside kept → is_one_line rest ≡ true → m ≤ length text → IsWhole (take m text) → m ≤ kept
+pub walked_out : (text rest : List ℕ) (inside : Bool) (kept m : ℕ) → Walked text rest inside kept → is_one_line rest ≡ true → m ≤ length text →
+    IsWhole (take m text) → m ≤ kept
 walked_out text rest inside kept m w one most is =
     let whole : lines_text is.lines ++ drop m text ≡ text = ap (λ t. t ++ drop m text) (sym is.printed) ∙ take-append-drop m text in
     let less = whole_le w.whole w.others is.lines rest (drop m text) false w.ones w.other_ones is.ones one w.closed w.still (whole ∙ w.printed) is.closed in

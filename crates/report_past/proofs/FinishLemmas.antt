@@ -1,5 +1,29 @@
 -- Where a round begins, and what was told where a reading ends.
-use Rattle.std.proofs.Common.{◌≡◌, ℕ, ◌<◌, ◌≤◌, ◌^◌, Bool, true, List, [], ◌∷◌, ◌++◌, map, Option, Some, None, refl, sym, ap, subst, ◌∙◌, append_assoc, append-nil, arith}
+use Rattle.std.proofs.Common.{
+  ◌≡◌,
+  ℕ,
+  ◌<◌,
+  ◌≤◌,
+  ◌^◌,
+  Bool,
+  true,
+  List,
+  [],
+  ◌∷◌,
+  ◌++◌,
+  map,
+  Option,
+  Some,
+  None,
+  refl,
+  sym,
+  ap,
+  subst,
+  ◌∙◌,
+  append_assoc,
+  append-nil,
+  arith,
+}
 use Rattle.std.proofs.lemmas.List.Elements.{All-append, All-cons, All-head, All-nil, All-tail, All-weaker}
 use Rattle.std.proofs.lemmas.List.Sums.{fold-append}
 use Rattle.std.specs.List.{All}
@@ -32,7 +56,8 @@ use Rattle.rider_limits.specs.declared.settings.Settings.{Settings}
 use Rattle.road_network.specs.Roads.{Roads}
 
 -- a lane without commands, entries or a batch to close
-nothing_to_do : (open_batch : Option Batch) → open_batch ≡ None → (lane : ℕ) (rest : List Entry) → IsLaneRunFrom (owed open_batch lane) [] rest → IsLaneRun [] rest
+nothing_to_do : (open_batch : Option Batch) → open_batch ≡ None → (lane : ℕ) (rest : List Entry) → IsLaneRunFrom (owed open_batch lane) [] rest →
+    IsLaneRun [] rest
 nothing_to_do open_batch closed lane rest is = subst (λ p. IsLaneRunFrom p [] rest) (ap (λ o. owed o lane) closed ∙ none_owed lane) is
 
 with_last-push : (e : Entry) (done : List Journal) (j : Journal) → with_last e (done ++ j ∷ []) ≡ done ++ (record j { entries = j.entries ++ e ∷ [] }) ∷ []
@@ -50,7 +75,8 @@ module _ (settings : Settings) (roads : Roads) (vehicles : List Vehicle) (judged
     pub is : IsInRound settings roads vehicles judged read front [] done j number b open_batch notices
     pub below : All (λ l. l.round ≤ number) (front ++ [])
 
-  begins_first : (number : ℕ) (b : BookView) (open_batch : Option Batch) (notices : List Notice) → IsAtStart settings roads vehicles judged b open_batch notices → Begins [] number b open_batch notices
+  begins_first : (number : ℕ) (b : BookView) (open_batch : Option Batch) (notices : List Notice) →
+      IsAtStart settings roads vehicles judged b open_batch notices → Begins [] number b open_batch notices
   unfolding RepliesAreSteps ClosesAreGood state_after last_notices
   begins_first number b open_batch notices start = record {
     front = [];
@@ -80,19 +106,22 @@ module _ (settings : Settings) (roads : Roads) (vehicles : List Vehicle) (judged
     below = All-nil (λ (l : ScriptRow). l.round ≤ number);
   }
 
-  module _ (before : List ℕ) (front : List ScriptRow) (row : ScriptRow) (rows : List ScriptRow) (done : List Journal) (j : Journal) (last : ℕ) (b : BookView) (open_batch : Option Batch) (notices : List Notice)
+  module _ (before : List ℕ) (front : List ScriptRow) (row : ScriptRow) (rows : List ScriptRow) (done : List Journal) (j : Journal) (last : ℕ) (b : BookView)
+      (open_batch : Option Batch) (notices : List Notice)
       (is : IsInRound settings roads vehicles judged before front (row ∷ rows) done j last b open_batch notices) where
     abbrev own : List ScriptRow
     own = row ∷ rows
 
     -- the round is told, with these entries
-    told_round : (k : Journal) → RepliesAreSteps roads.nodes settings.wait k.base k.entries → ((lane : ℕ) → IsLaneRun (commands_in own lane) (of_lane lane k.entries)) → IsToldRound settings roads (round_of own last) k
+    told_round : (k : Journal) → RepliesAreSteps roads.nodes settings.wait k.base k.entries →
+        ((lane : ℕ) → IsLaneRun (commands_in own lane) (of_lane lane k.entries)) → IsToldRound settings roads (round_of own last) k
     told_round k replies lanes = record {
       replies = replies;
       lanes = λ lane. subst (λ cs. IsLaneRun cs (of_lane lane k.entries)) (sym (lane_commands own last lane is.own)) (lanes lane);
     }
 
-    told_with : (k : Journal) → k.base ≡ j.base → k.first ≡ j.first → IsToldRound settings roads (round_of own last) k → IsToldRun settings roads (opening vehicles) 0 (rows_rounds (front ++ own)) (done ++ k ∷ [])
+    told_with : (k : Journal) → k.base ≡ j.base → k.first ≡ j.first → IsToldRound settings roads (round_of own last) k →
+        IsToldRun settings roads (opening vehicles) 0 (rows_rounds (front ++ own)) (done ++ k ∷ [])
     told_with k base first round =
         subst (λ rs. IsToldRun settings roads (opening vehicles) 0 rs (done ++ k ∷ [])) (sym (last_of_rounds front row rows last is.earlier is.own))
         (told-more settings roads (opening vehicles) 0 (rows_rounds front) done (round_of own last) k is.told (base ∙ is.base) (first ∙ is.first) round)
@@ -100,16 +129,20 @@ module _ (settings : Settings) (roads : Roads) (vehicles : List Vehicle) (judged
     told_closed : open_batch ≡ None → IsToldRun settings roads (opening vehicles) 0 (rows_rounds (front ++ own)) (done ++ j ∷ [])
     told_closed closed = told_with j refl refl (told_round j is.replies (lanes_closed own j.entries open_batch closed is.lanes))
 
-    told_by : (o : Option Batch) (outcome : Outcome) → open_batch ≡ o → IsToldRun settings roads (opening vehicles) 0 (rows_rounds (front ++ own)) (closed_with o outcome (done ++ j ∷ []))
+    told_by : (o : Option Batch) (outcome : Outcome) → open_batch ≡ o → IsToldRun settings roads (opening vehicles) 0 (rows_rounds (front ++ own))
+        (closed_with o outcome (done ++ j ∷ []))
     told_by None outcome same = told_closed same
     told_by (Some batch) outcome same =
         let e : Entry = close_of batch outcome in
         let k : Journal = record j { entries = j.entries ++ e ∷ [] } in
-        let sealed : (state_after roads.nodes settings.wait j.base j.entries).sealed ≡ Some batch = ap (λ (s : State). s.sealed) (sym is.state) ∙ is.sealed ∙ same in
+        let sealed : (state_after roads.nodes settings.wait j.base j.entries).sealed ≡ Some batch = ap (λ (s : State). s.sealed) (sym is.state) ∙ is.sealed ∙
+        same in
         subst (λ js. IsToldRun settings roads (opening vehicles) 0 (rows_rounds (front ++ own)) js) (sym (with_last-push e done j))
         (told_with k refl refl
-        (told_round k (replies_push roads.nodes settings.wait j.base j.entries e is.replies (sym (closed_reply roads.nodes settings.wait (state_after roads.nodes settings.wait j.base j.entries) batch outcome sealed)))
-        (lanes_close own j.entries batch outcome (subst (λ p. (lane : ℕ) (rest : List Entry) → IsLaneRunFrom (owed p lane) [] rest → IsLaneRun (commands_in own lane) (of_lane lane j.entries ++ rest)) same is.lanes))))
+        (told_round k (replies_push roads.nodes settings.wait j.base j.entries e is.replies (sym
+        (closed_reply roads.nodes settings.wait (state_after roads.nodes settings.wait j.base j.entries) batch outcome sealed)))
+        (lanes_close own j.entries batch outcome (subst (λ p. (lane : ℕ) (rest : List Entry) → IsLaneRunFrom (owed p lane) [] rest →
+        IsLaneRun (commands_in own lane) (of_lane lane j.entries ++ rest)) same is.lanes))))
 
     read_text : before ++ round_text last true j ≡ journals_text true (rows_rounds (front ++ own)) (done ++ j ∷ [])
     read_text =
@@ -166,7 +199,8 @@ module _ (settings : Settings) (roads : Roads) (vehicles : List Vehicle) (judged
           (All-weaker (λ (l : ScriptRow). l.round ≤ last) (λ l. l.round ≤ number) (λ l h. omega (arith, h, later)) own (own_most last own is.own)));
     }
 
-  pub begins : (read : List ℕ) (s : Stand) (number : ℕ) → IsReading settings roads vehicles judged read s → s.open_batch ≡ None → IsAbove s.last number → Begins read number s.book s.open_batch s.notices
+  pub begins : (read : List ℕ) (s : Stand) (number : ℕ) → IsReading settings roads vehicles judged read s → s.open_batch ≡ None → IsAbove s.last number →
+      Begins read number s.book s.open_batch s.notices
   begins _ _ number (IsReading.at_start b open_batch notices start) closed above = begins_first number b open_batch notices start
   begins _ _ number (IsReading.in_round before front row rows done j last b open_batch notices is) closed above =
       begins_later before front row rows done j last b open_batch notices is number above closed

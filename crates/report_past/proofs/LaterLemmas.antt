@@ -1,5 +1,31 @@
 -- Rows of later rounds make further rounds.
-use Rattle.std.proofs.Common.{rules, ◌≡◌, ◌≢◌, ℕ, ◌≤◌, ◌<◌, ◌&&◌, not, eqb, List, [], ◌∷◌, ◌++◌, map, fold, Option, None, Some, refl, sym, ap, subst, ◌∙◌, append-nil, arith}
+use Rattle.std.proofs.Common.{
+  rules,
+  ◌≡◌,
+  ◌≢◌,
+  ℕ,
+  ◌≤◌,
+  ◌<◌,
+  ◌&&◌,
+  not,
+  eqb,
+  List,
+  [],
+  ◌∷◌,
+  ◌++◌,
+  map,
+  fold,
+  Option,
+  None,
+  Some,
+  refl,
+  sym,
+  ap,
+  subst,
+  ◌∙◌,
+  append-nil,
+  arith,
+}
 use Rattle.std.proofs.lemmas.Bool.Decides.{nat_tests}
 use Rattle.std.proofs.lemmas.List.{map-append}
 use Rattle.std.proofs.lemmas.List.Elements.{All-filter, All-head, All-tail, All-nil, All-cons, All-weaker, filter-append}
@@ -22,7 +48,8 @@ kept_all x (y ∷ ys) all = grind (arith, nat_tests, All-head (λ z. x < z) y ys
 All-distinct : (P : ℕ → Type 0) (xs : List ℕ) → All P xs → All P (distinct xs)
 All-distinct P [] all = all
 All-distinct P (x ∷ xs) all =
-    All-cons P x (filter (λ m. not (eqb m x)) (distinct xs)) (All-head P x xs all) (All-filter (λ m. not (eqb m x)) P (distinct xs) (All-distinct P xs (All-tail P x xs all)))
+    All-cons P x (filter (λ m. not (eqb m x)) (distinct xs)) (All-head P x xs all) (All-filter (λ m. not (eqb m x)) P (distinct xs)
+    (All-distinct P xs (All-tail P x xs all)))
 
 distinct-append : (n : ℕ) (xs ys : List ℕ) → All (λ x. x ≤ n) xs → All (λ y. n < y) ys → distinct (xs ++ ys) ≡ distinct xs ++ distinct ys
 distinct-append n [] ys low high = refl
@@ -31,7 +58,8 @@ distinct-append n (x ∷ xs) ys low high =
     let first : x ≤ n = All-head (λ z. z ≤ n) x xs low in
     let rest = distinct-append n xs ys (All-tail (λ z. z ≤ n) x xs low) high in
     let further = All-weaker (λ y. n < y) (λ y. x < y) (λ y h. omega (arith, h, first)) (distinct ys) (All-distinct (λ y. n < y) ys high) in
-    ap (λ zs. x ∷ filter p zs) rest ∙ ap (λ zs. x ∷ zs) (filter-append p (distinct xs) (distinct ys)) ∙ ap (λ zs. x ∷ (filter p (distinct xs) ++ zs)) (kept_all x (distinct ys) further)
+    ap (λ zs. x ∷ filter p zs) rest ∙ ap (λ zs. x ∷ zs) (filter-append p (distinct xs) (distinct ys)) ∙
+    ap (λ zs. x ∷ (filter p (distinct xs) ++ zs)) (kept_all x (distinct ys) further)
 
 -- the commands of a round's lane
 abbrev of_round : List ScriptRow → ℕ → ℕ → List Command
@@ -56,24 +84,28 @@ All-of P (x ∷ xs) of = All-cons P x xs (of x) (All-of P xs of)
 
 All-numbers : (P : ℕ → Type 0) (rows : List ScriptRow) → All (λ l. P l.round) rows → All P (numbers rows)
 All-numbers P [] all = All-nil P
-All-numbers P (l ∷ ls) all = All-cons P l.round (numbers ls) (All-head (λ (k : ScriptRow). P k.round) l ls all) (All-numbers P ls (All-tail (λ (k : ScriptRow). P k.round) l ls all))
+All-numbers P (l ∷ ls) all = All-cons P l.round (numbers ls) (All-head (λ (k : ScriptRow). P k.round) l ls all)
+    (All-numbers P ls (All-tail (λ (k : ScriptRow). P k.round) l ls all))
 
 same_round : (xs ys : List ScriptRow) (number : ℕ) → ((lane : ℕ) → of_round xs number lane ≡ of_round ys number lane) → round_of xs number ≡ round_of ys number
 same_round xs ys number same =
     ap (λ (ls : List (List Command)). record { number = number; lanes = ls })
-    (map-on (of_round xs number) (of_round ys number) (range_with_len 0 16) (All-of (λ lane. of_round xs number lane ≡ of_round ys number lane) (range_with_len 0 16) same))
+    (map-on (of_round xs number) (of_round ys number) (range_with_len 0 16) (All-of (λ lane. of_round xs number lane ≡ of_round ys number lane)
+    (range_with_len 0 16) same))
 
 round-front : (n : ℕ) (xs ys : List ScriptRow) (number : ℕ) → All (λ l. n < l.round) ys → number ≤ n → round_of (xs ++ ys) number ≡ round_of xs number
 round-front n xs ys number high low =
     let none = All-weaker (λ (l : ScriptRow). n < l.round) (λ (l : ScriptRow). l.round ≢ number) (λ l above e. omega (arith, above, e, low)) ys high in
-    same_round (xs ++ ys) xs number (λ lane. of_round-append xs ys number lane ∙ ap (λ cs. of_round xs number lane ++ cs) (of_round-none ys number lane none) ∙ append-nil (of_round xs number lane))
+    same_round (xs ++ ys) xs number (λ lane. of_round-append xs ys number lane ∙ ap (λ cs. of_round xs number lane ++ cs) (of_round-none ys number lane none) ∙
+    append-nil (of_round xs number lane))
 
 round-back : (n : ℕ) (xs ys : List ScriptRow) (number : ℕ) → All (λ l. l.round ≤ n) xs → n < number → round_of (xs ++ ys) number ≡ round_of ys number
 round-back n xs ys number low high =
     let none = All-weaker (λ (l : ScriptRow). l.round ≤ n) (λ (l : ScriptRow). l.round ≢ number) (λ l below e. omega (arith, below, e, high)) xs low in
     same_round (xs ++ ys) ys number (λ lane. of_round-append xs ys number lane ∙ ap (λ cs. cs ++ of_round ys number lane) (of_round-none xs number lane none))
 
-pub further_rounds : (n : ℕ) (xs ys : List ScriptRow) → All (λ l. l.round ≤ n) xs → All (λ l. n < l.round) ys → rows_rounds (xs ++ ys) ≡ rows_rounds xs ++ rows_rounds ys
+pub further_rounds : (n : ℕ) (xs ys : List ScriptRow) → All (λ l. l.round ≤ n) xs → All (λ l. n < l.round) ys →
+    rows_rounds (xs ++ ys) ≡ rows_rounds xs ++ rows_rounds ys
 further_rounds n xs ys low high =
     let lows = All-distinct (λ m. m ≤ n) (numbers xs) (All-numbers (λ m. m ≤ n) xs low) in
     let highs = All-distinct (λ m. n < m) (numbers ys) (All-numbers (λ m. n < m) ys high) in
@@ -82,9 +114,11 @@ further_rounds n xs ys low high =
     ∙ ap (λ ns. map all ns) (distinct-append n (numbers xs) (numbers ys) (All-numbers (λ m. m ≤ n) xs low) (All-numbers (λ m. n < m) ys high))
     ∙ map-append all (distinct (numbers xs)) (distinct (numbers ys))
     ∙ ap (λ rs. rs ++ map all (distinct (numbers ys)))
-    (map-on all (round_of xs) (distinct (numbers xs)) (All-weaker (λ m. m ≤ n) (λ m. all m ≡ round_of xs m) (λ m is. round-front n xs ys m high is) (distinct (numbers xs)) lows))
+    (map-on all (round_of xs) (distinct (numbers xs)) (All-weaker (λ m. m ≤ n) (λ m. all m ≡ round_of xs m) (λ m is. round-front n xs ys m high is)
+    (distinct (numbers xs)) lows))
     ∙ ap (λ rs. map (round_of xs) (distinct (numbers xs)) ++ rs)
-    (map-on all (round_of ys) (distinct (numbers ys)) (All-weaker (λ m. n < m) (λ m. all m ≡ round_of ys m) (λ m is. round-back n xs ys m low is) (distinct (numbers ys)) highs))
+    (map-on all (round_of ys) (distinct (numbers ys)) (All-weaker (λ m. n < m) (λ m. all m ≡ round_of ys m) (λ m is. round-back n xs ys m low is)
+    (distinct (numbers ys)) highs))
 
 -- the round of the last of rows that stand behind a round
 abbrev pub top : ℕ → List ScriptRow → ℕ
@@ -101,9 +135,12 @@ top-above last (row ∷ rows) are = omega (arith, are.0.round, top-above row.rou
 
 pub top-most : (last : ℕ) (rows : List ScriptRow) → AreScriptRows last rows → All (λ l. l.round ≤ top last rows) rows
 top-most last [] are = All-nil (λ (l : ScriptRow). l.round ≤ last)
-top-most last (row ∷ rows) are = All-cons (λ (l : ScriptRow). l.round ≤ top row.round rows) row rows (top-above row.round rows are.1) (top-most row.round rows are.1)
+top-most last (row ∷ rows) are = All-cons (λ (l : ScriptRow). l.round ≤ top row.round rows) row rows (top-above row.round rows are.1)
+    (top-most row.round rows are.1)
 
-pub later_rounds : (rows more : List ScriptRow) → AreScriptRows 0 rows → All (IsLater (last_round rows)) more → rows_rounds (rows ++ more) ≡ rows_rounds rows ++ rows_rounds more
+pub later_rounds : (rows more : List ScriptRow) → AreScriptRows 0 rows → All (IsLater (last_round rows)) more →
+    rows_rounds (rows ++ more) ≡ rows_rounds rows ++ rows_rounds more
 later_rounds [] more are later = refl
 later_rounds (row ∷ rows) more are later =
-    further_rounds (top row.round rows) (row ∷ rows) more (top-most 0 (row ∷ rows) are) (subst (λ last. All (IsLater last) more) (top-last row.round rows) later)
+    further_rounds (top row.round rows) (row ∷ rows) more (top-most 0 (row ∷ rows) are) (subst (λ last. All (IsLater last) more) (top-last row.round rows)
+    later)

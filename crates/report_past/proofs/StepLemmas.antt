@@ -1,5 +1,40 @@
 -- One entry more of the round that is read.
-use Rattle.std.proofs.Common.{rules, eqb, ◌≡◌, ◌≢◌, ℕ, zero, suc, ◌<◌, ◌≤◌, ◌^◌, Bool, true, false, if◌then◌else◌, List, [], ◌∷◌, ◌++◌, map, filter, Option, Some, None, option_map, refl, sym, ap, subst, ◌∙◌, append_assoc, append-nil, inl, inr, arith}
+use Rattle.std.proofs.Common.{
+  rules,
+  eqb,
+  ◌≡◌,
+  ◌≢◌,
+  ℕ,
+  zero,
+  suc,
+  ◌<◌,
+  ◌≤◌,
+  ◌^◌,
+  Bool,
+  true,
+  false,
+  if◌then◌else◌,
+  List,
+  [],
+  ◌∷◌,
+  ◌++◌,
+  map,
+  filter,
+  Option,
+  Some,
+  None,
+  option_map,
+  refl,
+  sym,
+  ap,
+  subst,
+  ◌∙◌,
+  append_assoc,
+  append-nil,
+  inl,
+  inr,
+  arith,
+}
 use Rattle.std.proofs.lemmas.Bool.{cases_eq}
 use Rattle.std.proofs.lemmas.Bool.Decides.{nat_tests}
 use Rattle.std.proofs.lemmas.List.{map-append}
@@ -45,7 +80,8 @@ pub no_close : (lane : ℕ) (command : Command) → MayStand lane command → Is
 no_close lane (Close batch outcome) stands = absurd stands
 no_close lane _ stands = tt
 
-sealed_next : (nodes : List ℕ) (wait : ℕ) (s : State) (command : Command) → IsNoClose command → (step nodes wait s command).0.sealed ≡ last_sealed s.sealed (snapshot_before wait s command)
+sealed_next : (nodes : List ℕ) (wait : ℕ) (s : State) (command : Command) → IsNoClose command →
+    (step nodes wait s command).0.sealed ≡ last_sealed s.sealed (snapshot_before wait s command)
 unfolding step submit cancel report pickup dropoff seal
 sealed_next nodes wait s command plain = grind arith
 
@@ -53,11 +89,13 @@ snapshot_none : (wait : ℕ) (s : State) (lane : ℕ) (command : Command) → Ma
 snapshot_none wait s lane (Seal now) stands other = absurd (other stands)
 snapshot_none wait s lane _ stands other = refl
 
-pub closed_reply : (nodes : List ℕ) (wait : ℕ) (s : State) (b : Batch) (outcome : Outcome) → s.sealed ≡ Some b → (step nodes wait s (Close b.number outcome)).1 ≡ Closed
+pub closed_reply : (nodes : List ℕ) (wait : ℕ) (s : State) (b : Batch) (outcome : Outcome) → s.sealed ≡ Some b →
+    (step nodes wait s (Close b.number outcome)).1 ≡ Closed
 unfolding step close
 closed_reply nodes wait s b outcome is = grind (arith, nat_tests)
 
-closed_state : (nodes : List ℕ) (wait : ℕ) (s : State) (b : Batch) (outcome : Outcome) → s.sealed ≡ Some b → (step nodes wait s (Close b.number outcome)).0.sealed ≡ None
+closed_state : (nodes : List ℕ) (wait : ℕ) (s : State) (b : Batch) (outcome : Outcome) → s.sealed ≡ Some b →
+    (step nodes wait s (Close b.number outcome)).0.sealed ≡ None
 unfolding step close
 closed_state nodes wait s b outcome is = grind (arith, nat_tests)
 
@@ -65,23 +103,28 @@ no_closes : (command : Command) (reply : Reply) → IsNoClose command → closes
 no_closes (Close batch outcome) reply plain = absurd plain
 no_closes _ reply plain = refl
 
-plain_close : (settings : Settings) (roads : Roads) (s : State) (command : Command) (reply : Reply) → IsNoClose command → IsGoodClose settings roads s command reply
+plain_close : (settings : Settings) (roads : Roads) (s : State) (command : Command) (reply : Reply) → IsNoClose command →
+    IsGoodClose settings roads s command reply
 plain_close settings roads s (Close batch outcome) reply plain = absurd plain
 plain_close settings roads s _ reply plain = tt
 
 -- one entry more
-pub replies_push : (nodes : List ℕ) (wait : ℕ) (s : State) (es : List Entry) (e : Entry) → RepliesAreSteps nodes wait s es → e.reply ≡ (step nodes wait (state_after nodes wait s es) e.command).1 → RepliesAreSteps nodes wait s (es ++ e ∷ [])
+pub replies_push : (nodes : List ℕ) (wait : ℕ) (s : State) (es : List Entry) (e : Entry) → RepliesAreSteps nodes wait s es →
+    e.reply ≡ (step nodes wait (state_after nodes wait s es) e.command).1 → RepliesAreSteps nodes wait s (es ++ e ∷ [])
 unfolding RepliesAreSteps state_after
 replies_push nodes wait s [] e replies is = (is, tt)
 replies_push nodes wait s (x ∷ es) e replies is = (replies.0, replies_push nodes wait (step nodes wait s x.command).0 es e replies.1 is)
 
 notices_push : (nodes : List ℕ) (wait : ℕ) (s : State) (told : List Notice) (es : List Entry) (e : Entry)
-    → last_notices nodes wait s told (es ++ e ∷ []) ≡ (if closes e.command e.reply then entry_notices (state_after nodes wait s es) e.command e.reply else last_notices nodes wait s told es)
+    → last_notices nodes wait s told (es ++ e ∷ []) ≡ (if closes e.command e.reply then entry_notices (state_after nodes wait s es) e.command e.reply else
+    last_notices nodes wait s told es)
 unfolding last_notices state_after
 notices_push nodes wait s told [] e = refl
-notices_push nodes wait s told (x ∷ es) e = notices_push nodes wait (step nodes wait s x.command).0 (if closes x.command x.reply then entry_notices s x.command x.reply else told) es e
+notices_push nodes wait s told (x ∷ es) e = notices_push nodes wait (step nodes wait s x.command).0
+    (if closes x.command x.reply then entry_notices s x.command x.reply else told) es e
 
-state_push : (nodes : List ℕ) (wait : ℕ) (s : State) (es : List Entry) (e : Entry) → state_after nodes wait s (es ++ e ∷ []) ≡ (step nodes wait (state_after nodes wait s es) e.command).0
+state_push : (nodes : List ℕ) (wait : ℕ) (s : State) (es : List Entry) (e : Entry) → state_after nodes wait s (es ++ e ∷ []) ≡
+    (step nodes wait (state_after nodes wait s es) e.command).0
 unfolding state_after
 state_push nodes wait s es e = state-append nodes wait s es (e ∷ [])
 
@@ -95,7 +138,8 @@ pub own_lane : (es : List Entry) (e : Entry) (lane : ℕ) → e.lane ≡ lane �
 own_lane es e lane is = filter-append (λ (x : Entry). eqb x.lane lane) es (e ∷ []) ∙ ap (λ zs. of_lane lane es ++ zs) (own_one e lane is)
 
 pub other_lane : (es : List Entry) (e : Entry) (lane : ℕ) → e.lane ≢ lane → of_lane lane (es ++ e ∷ []) ≡ of_lane lane es
-other_lane es e lane is = filter-append (λ (x : Entry). eqb x.lane lane) es (e ∷ []) ∙ ap (λ zs. of_lane lane es ++ zs) (other_one e lane is) ∙ append-nil (of_lane lane es)
+other_lane es e lane is = filter-append (λ (x : Entry). eqb x.lane lane) es (e ∷ []) ∙ ap (λ zs. of_lane lane es ++ zs) (other_one e lane is) ∙
+    append-nil (of_lane lane es)
 
 -- one row more
 own_row : (row : ScriptRow) (lane : ℕ) → row.lane ≡ lane → commands_in (row ∷ []) lane ≡ row.command ∷ []
@@ -117,7 +161,8 @@ not_owed open_batch zero other = absurd (other refl)
 not_owed open_batch (suc n) other = refl
 
 -- a lane that owes nothing is done
-lane_done : (rows : List ScriptRow) (es : List Entry) (open_batch : Option Batch) (lane : ℕ) → ((rest : List Entry) → IsLaneRunFrom (owed open_batch lane) [] rest → IsLaneRun (commands_in rows lane) (of_lane lane es ++ rest))
+lane_done : (rows : List ScriptRow) (es : List Entry) (open_batch : Option Batch) (lane : ℕ) →
+    ((rest : List Entry) → IsLaneRunFrom (owed open_batch lane) [] rest → IsLaneRun (commands_in rows lane) (of_lane lane es ++ rest))
     → owed open_batch lane ≡ None → IsLaneRun (commands_in rows lane) (of_lane lane es)
 lane_done rows es open_batch lane are none =
     subst (IsLaneRun (commands_in rows lane)) (append-nil (of_lane lane es)) (are [] (subst (λ p. IsLaneRunFrom p [] []) (sym none) tt))
@@ -128,31 +173,40 @@ nothing_owed (x ∷ rest) is = absurd is
 
 module _ (rows : List ScriptRow) (es : List Entry) (open_batch next : Option Batch) (row : ScriptRow) (reply : Reply)
     (are : (lane : ℕ) (rest : List Entry) → IsLaneRunFrom (owed open_batch lane) [] rest → IsLaneRun (commands_in rows lane) (of_lane lane es ++ rest))
-    (free : owed open_batch row.lane ≡ None) (owes : owed next row.lane ≡ sealed_by reply) (same : (lane : ℕ) → row.lane ≢ lane → owed next lane ≡ owed open_batch lane) where
+    (free : owed open_batch row.lane ≡ None) (owes : owed next row.lane ≡ sealed_by reply)
+    (same : (lane : ℕ) → row.lane ≢ lane → owed next lane ≡ owed open_batch lane) where
   abbrev made : Entry
   made = record { lane = row.lane; command = row.command; reply = reply }
 
-  lanes_own : (rest : List Entry) → IsLaneRunFrom (owed next row.lane) [] rest → IsLaneRun (commands_in (rows ++ row ∷ []) row.lane) (of_lane row.lane (es ++ made ∷ []) ++ rest)
+  lanes_own : (rest : List Entry) → IsLaneRunFrom (owed next row.lane) [] rest → IsLaneRun (commands_in (rows ++ row ∷ []) row.lane)
+      (of_lane row.lane (es ++ made ∷ []) ++ rest)
   lanes_own rest is =
       let cs = commands_in rows row.lane in
       let fs = of_lane row.lane es in
       let more : IsLaneRun (row.command ∷ []) (made ∷ rest) = (refl, subst (λ p. IsLaneRunFrom p [] rest) owes is) in
-      let run : IsLaneRun (cs ++ row.command ∷ []) (fs ++ made ∷ rest) = run-append None cs (row.command ∷ []) fs (made ∷ rest) (lane_done rows es open_batch row.lane (are row.lane) free) more in
-      let commands : commands_in (rows ++ row ∷ []) row.lane ≡ cs ++ row.command ∷ [] = commands-append rows (row ∷ []) row.lane ∙ ap (λ ds. cs ++ ds) (own_row row row.lane refl) in
-      let entries : of_lane row.lane (es ++ made ∷ []) ++ rest ≡ fs ++ made ∷ rest = ap (λ gs. gs ++ rest) (own_lane es made row.lane refl) ∙ append_assoc fs (made ∷ []) rest in
+      let run : IsLaneRun (cs ++ row.command ∷ []) (fs ++ made ∷ rest) = run-append None cs (row.command ∷ []) fs (made ∷ rest)
+      (lane_done rows es open_batch row.lane (are row.lane) free) more in
+      let commands : commands_in (rows ++ row ∷ []) row.lane ≡ cs ++ row.command ∷ [] = commands-append rows (row ∷ []) row.lane ∙
+      ap (λ ds. cs ++ ds) (own_row row row.lane refl) in
+      let entries : of_lane row.lane (es ++ made ∷ []) ++ rest ≡ fs ++ made ∷ rest = ap (λ gs. gs ++ rest) (own_lane es made row.lane refl) ∙
+      append_assoc fs (made ∷ []) rest in
       subst (λ ds. IsLaneRun ds (of_lane row.lane (es ++ made ∷ []) ++ rest)) (sym commands) (subst (IsLaneRun (cs ++ row.command ∷ [])) (sym entries) run)
 
-  lanes_other : (lane : ℕ) → row.lane ≢ lane → (rest : List Entry) → IsLaneRunFrom (owed next lane) [] rest → IsLaneRun (commands_in (rows ++ row ∷ []) lane) (of_lane lane (es ++ made ∷ []) ++ rest)
+  lanes_other : (lane : ℕ) → row.lane ≢ lane → (rest : List Entry) → IsLaneRunFrom (owed next lane) [] rest →
+      IsLaneRun (commands_in (rows ++ row ∷ []) lane) (of_lane lane (es ++ made ∷ []) ++ rest)
   lanes_other lane other rest is =
       let commands : commands_in (rows ++ row ∷ []) lane ≡ commands_in rows lane =
-          commands-append rows (row ∷ []) lane ∙ ap (λ ds. commands_in rows lane ++ ds) (other_row row lane other) ∙ append-nil (commands_in rows lane) in
+      commands-append rows (row ∷ []) lane ∙ ap (λ ds. commands_in rows lane ++ ds) (other_row row lane other) ∙ append-nil (commands_in rows lane) in
       subst (λ ds. IsLaneRun ds (of_lane lane (es ++ made ∷ []) ++ rest)) (sym commands)
-      (subst (λ gs. IsLaneRun (commands_in rows lane) (gs ++ rest)) (sym (other_lane es made lane other)) (are lane rest (subst (λ p. IsLaneRunFrom p [] rest) (same lane other) is)))
+      (subst (λ gs. IsLaneRun (commands_in rows lane) (gs ++ rest)) (sym (other_lane es made lane other))
+      (are lane rest (subst (λ p. IsLaneRunFrom p [] rest) (same lane other) is)))
 
-  pub lanes_row : (lane : ℕ) (rest : List Entry) → IsLaneRunFrom (owed next lane) [] rest → IsLaneRun (commands_in (rows ++ row ∷ []) lane) (of_lane lane (es ++ made ∷ []) ++ rest)
+  pub lanes_row : (lane : ℕ) (rest : List Entry) → IsLaneRunFrom (owed next lane) [] rest →
+      IsLaneRun (commands_in (rows ++ row ∷ []) lane) (of_lane lane (es ++ made ∷ []) ++ rest)
   lanes_row lane rest is = elim (cases_eq row.lane lane) [
     | inl own ↦
-        subst (λ l. IsLaneRun (commands_in (rows ++ row ∷ []) l) (of_lane l (es ++ made ∷ []) ++ rest)) own (lanes_own rest (subst (λ l. IsLaneRunFrom (owed next l) [] rest) (sym own) is))
+        subst (λ l. IsLaneRun (commands_in (rows ++ row ∷ []) l) (of_lane l (es ++ made ∷ []) ++ rest)) own
+        (lanes_own rest (subst (λ l. IsLaneRunFrom (owed next l) [] rest) (sym own) is))
     | inr other ↦ lanes_other lane other rest is
   ]
 
@@ -194,30 +248,38 @@ last_none : (sealed : Option Batch) → last_sealed None sealed ≡ sealed
 last_none None = refl
 last_none (Some b) = refl
 
-owes_of : (open_batch sealed : Option Batch) (lane : ℕ) (shown : Option ℕ) → (lane ≡ 0 → open_batch ≡ None) → (lane ≢ 0 → sealed ≡ None) → option_map (λ b. b.number) sealed ≡ shown
+owes_of : (open_batch sealed : Option Batch) (lane : ℕ) (shown : Option ℕ) → (lane ≡ 0 → open_batch ≡ None) → (lane ≢ 0 → sealed ≡ None) →
+    option_map (λ b. b.number) sealed ≡ shown
     → owed (last_sealed open_batch sealed) lane ≡ shown
-owes_of open_batch sealed zero shown free quiet is = ap (λ (o : Option Batch). option_map (λ b. b.number) (last_sealed o sealed)) (free refl) ∙ ap (λ (o : Option Batch). option_map (λ b. b.number) o) (last_none sealed) ∙ is
-owes_of open_batch sealed (suc n) shown free quiet is = let none : sealed ≡ None = quiet (λ e. omega (arith, e)) in ap (λ (o : Option Batch). option_map (λ b. b.number) o) (sym none) ∙ is
+owes_of open_batch sealed zero shown free quiet is = ap (λ (o : Option Batch). option_map (λ b. b.number) (last_sealed o sealed)) (free refl) ∙
+    ap (λ (o : Option Batch). option_map (λ b. b.number) o) (last_none sealed) ∙ is
+owes_of open_batch sealed (suc n) shown free quiet is = let none : sealed ≡ None = quiet (λ e. omega (arith, e)) in ap
+    (λ (o : Option Batch). option_map (λ b. b.number) o) (sym none) ∙ is
 
-same_owed : (open_batch sealed : Option Batch) (own lane : ℕ) → (own ≢ 0 → sealed ≡ None) → own ≢ lane → owed (last_sealed open_batch sealed) lane ≡ owed open_batch lane
+same_owed : (open_batch sealed : Option Batch) (own lane : ℕ) → (own ≢ 0 → sealed ≡ None) → own ≢ lane →
+    owed (last_sealed open_batch sealed) lane ≡ owed open_batch lane
 same_owed open_batch sealed own zero quiet other = ap (λ s. owed (last_sealed open_batch s) 0) (quiet other)
 same_owed open_batch sealed own (suc n) quiet other = refl
 
-module _ (settings : Settings) (roads : Roads) (vehicles : List Vehicle) (judged : Bool) (before : List ℕ) (front rows : List ScriptRow) (done : List Journal) (j : Journal) (number : ℕ) (b : BookView) (open_batch : Option Batch) (notices : List Notice)
+module _ (settings : Settings) (roads : Roads) (vehicles : List Vehicle) (judged : Bool) (before : List ℕ) (front rows : List ScriptRow) (done : List Journal)
+    (j : Journal) (number : ℕ) (b : BookView) (open_batch : Option Batch) (notices : List Notice)
     (is : IsInRound settings roads vehicles judged before front rows done j number b open_batch notices) where
   abbrev with_entry : Entry → Journal
   with_entry e = record j { entries = j.entries ++ e ∷ [] }
 
   push : (rows_now : List ScriptRow) (e : Entry) (now : BookView) (next : Option Batch) (told : List Notice)
       → AreOf number rows_now → AreScriptRows 0 (front ++ rows_now)
-      → ((lane : ℕ) (rest : List Entry) → IsLaneRunFrom (owed next lane) [] rest → IsLaneRun (commands_in rows_now lane) (of_lane lane (j.entries ++ e ∷ []) ++ rest))
+      → ((lane : ℕ) (rest : List Entry) → IsLaneRunFrom (owed next lane) [] rest → IsLaneRun (commands_in rows_now lane)
+      (of_lane lane (j.entries ++ e ∷ []) ++ rest))
       → IsApplied b e.lane e.command e.reply now → now.state.sealed ≡ next
       → told ≡ (if closes e.command e.reply then entry_notices b.state e.command e.reply else notices)
       → (judged ≡ true → IsGoodClose settings roads b.state e.command e.reply)
       → IsInRound settings roads vehicles judged before front rows_now done (with_entry e) number now next told
   push rows_now e now next told own lawful lanes applied sealed notices_are good =
-      let stepped : (now.state, e.reply) ≡ step roads.nodes settings.wait b.state e.command = applied.stepped ∙ (λ i. step (is.nodes i) (is.wait i) b.state e.command) in
-      let here : step roads.nodes settings.wait b.state e.command ≡ step roads.nodes settings.wait (state_after roads.nodes settings.wait j.base j.entries) e.command = ap (λ s. step roads.nodes settings.wait s e.command) is.state in
+      let stepped : (now.state, e.reply) ≡ step roads.nodes settings.wait b.state e.command = applied.stepped ∙
+      (λ i. step (is.nodes i) (is.wait i) b.state e.command) in
+      let here : step roads.nodes settings.wait b.state e.command ≡ step roads.nodes settings.wait (state_after roads.nodes settings.wait j.base j.entries)
+      e.command = ap (λ s. step roads.nodes settings.wait s e.command) is.state in
       record {
         told = is.told;
         earlier = is.earlier;
@@ -232,36 +294,45 @@ module _ (settings : Settings) (roads : Roads) (vehicles : List Vehicle) (judged
         nodes = applied.nodes ∙ is.nodes;
         wait = applied.wait ∙ is.wait;
         state = ap (λ p. p.0) (stepped ∙ here) ∙ sym (state_push roads.nodes settings.wait j.base j.entries e);
-        position = (λ i. next_position (applied.first i) (applied.entries i)) ∙ next-append b.first b.entries (e ∷ []) ∙ ap (λ n. next_position n (e ∷ [])) is.position ∙ sym (next-append j.first j.entries (e ∷ []));
+        position = (λ i. next_position (applied.first i) (applied.entries i)) ∙ next-append b.first b.entries (e ∷ []) ∙
+            ap (λ n. next_position n (e ∷ [])) is.position ∙ sym (next-append j.first j.entries (e ∷ []));
         sealed = sealed;
         notices_are = notices_are
             ∙ (λ i. if closes e.command e.reply then entry_notices (is.state i) e.command e.reply else is.notices_are i)
             ∙ sym (notices_push roads.nodes settings.wait j.base _ j.entries e);
         good_before = is.good_before;
-        good = λ on. closes_push settings roads j.base j.entries e (is.good on) (subst (λ s. IsGoodClose settings roads s e.command e.reply) is.state (good on));
+        good = λ on. closes_push settings roads j.base j.entries e (is.good on) (subst (λ s. IsGoodClose settings roads s e.command e.reply) is.state
+            (good on));
       }
 
-  pub push_row : (row : ScriptRow) (reply : Reply) (now : BookView) (sealed : Option Batch) → row.round ≡ number → All (λ l. l.round ≤ number) (front ++ rows) → IsBehind 0 row
+  pub push_row : (row : ScriptRow) (reply : Reply) (now : BookView) (sealed : Option Batch) → row.round ≡ number → All (λ l. l.round ≤ number) (front ++ rows) →
+      IsBehind 0 row
       → (row.lane ≡ 0 → open_batch ≡ None) → IsApplied b row.lane row.command reply now → sealed ≡ snapshot_before b.wait b.state row.command
-      → IsInRound settings roads vehicles judged before front (rows ++ row ∷ []) done (with_entry (record { lane = row.lane; command = row.command; reply = reply })) number now (last_sealed open_batch sealed) notices
+      → IsInRound settings roads vehicles judged before front (rows ++ row ∷ []) done (with_entry
+      (record { lane = row.lane; command = row.command; reply = reply })) number now (last_sealed open_batch sealed) notices
   push_row row reply now sealed number_is below lawful free applied sealed_is =
       let plain : IsNoClose row.command = no_close row.lane row.command lawful.stands in
       let quiet = λ (other : row.lane ≢ 0). sealed_is ∙ snapshot_none b.wait b.state row.lane row.command lawful.stands other in
       let shown : option_map (λ (s : Batch). s.number) sealed ≡ sealed_by reply =
-          ap (λ (o : Option Batch). option_map (λ s. s.number) o) sealed_is ∙ step-sealed b.nodes b.wait b.state row.command ∙ ap (λ p. sealed_by p.1) (sym applied.stepped) in
+      ap (λ (o : Option Batch). option_map (λ s. s.number) o) sealed_is ∙ step-sealed b.nodes b.wait b.state row.command ∙
+      ap (λ p. sealed_by p.1) (sym applied.stepped) in
       push (rows ++ row ∷ []) (record { lane = row.lane; command = row.command; reply = reply }) now (last_sealed open_batch sealed) notices
       (own_push number rows row is.own number_is lawful.lane)
-      (subst (AreScriptRows 0) (append_assoc front rows (row ∷ [])) (rows_push (front ++ rows) row is.lawful (subst (λ n. All (λ (l : ScriptRow). l.round ≤ n) (front ++ rows)) (sym number_is) below) lawful))
-      (lanes_row rows j.entries open_batch (last_sealed open_batch sealed) row reply is.lanes (free_of open_batch row.lane free) (owes_of open_batch sealed row.lane (sealed_by reply) free quiet shown)
-        (λ lane other. same_owed open_batch sealed row.lane lane quiet other))
+      (subst (AreScriptRows 0) (append_assoc front rows (row ∷ [])) (rows_push (front ++ rows) row is.lawful
+      (subst (λ n. All (λ (l : ScriptRow). l.round ≤ n) (front ++ rows)) (sym number_is) below) lawful))
+      (lanes_row rows j.entries open_batch (last_sealed open_batch sealed) row reply is.lanes (free_of open_batch row.lane free)
+      (owes_of open_batch sealed row.lane (sealed_by reply) free quiet shown)
+      (λ lane other. same_owed open_batch sealed row.lane lane quiet other))
       applied
       (ap (λ p. p.0.sealed) applied.stepped ∙ sealed_next b.nodes b.wait b.state row.command plain ∙ (λ i. last_sealed (is.sealed i) (sym sealed_is i)))
       (sym (ap (λ (c : Bool). if c then entry_notices b.state row.command reply else notices) (no_closes row.command reply plain)))
       (λ on. plain_close settings roads b.state row.command reply plain)
 
-module _ (settings : Settings) (roads : Roads) (vehicles : List Vehicle) (judged : Bool) (before : List ℕ) (front rows : List ScriptRow) (done : List Journal) (j : Journal) (number : ℕ) (b : BookView) (batch : Batch) (notices : List Notice)
+module _ (settings : Settings) (roads : Roads) (vehicles : List Vehicle) (judged : Bool) (before : List ℕ) (front rows : List ScriptRow) (done : List Journal)
+    (j : Journal) (number : ℕ) (b : BookView) (batch : Batch) (notices : List Notice)
     (is : IsInRound settings roads vehicles judged before front rows done j number b (Some batch) notices) where
-  pub push_close : (outcome : Outcome) (reply : Reply) (now : BookView) (told : List Notice) → IsApplied b 0 (Close batch.number outcome) reply now → told ≡ entry_notices b.state (Close batch.number outcome) Closed
+  pub push_close : (outcome : Outcome) (reply : Reply) (now : BookView) (told : List Notice) → IsApplied b 0 (Close batch.number outcome) reply now →
+      told ≡ entry_notices b.state (Close batch.number outcome) Closed
       → (judged ≡ true → IsGoodOutcome settings roads batch outcome)
       → IsInRound settings roads vehicles judged before front rows done (record j { entries = j.entries ++ close_of batch outcome ∷ [] }) number now None told
   push_close outcome reply now told applied told_is good =

@@ -1,5 +1,42 @@
 -- From an item to what a reading has reached.
-use Rattle.std.proofs.Common.{rules, ◌≡◌, ◌≢◌, ℕ, ◌-◌, ◌<◌, ◌≤◌, ◌^◌, eqb, unwrap_or, Bool, true, List, [], ◌∷◌, ◌++◌, length, take, drop, get_or, codes, All, Contains, Option, Some, None, refl, sym, ap, subst, ◌∙◌, append_assoc, append-nil, length-append, take-append-drop, arith}
+use Rattle.std.proofs.Common.{
+  rules,
+  ◌≡◌,
+  ◌≢◌,
+  ℕ,
+  ◌-◌,
+  ◌<◌,
+  ◌≤◌,
+  ◌^◌,
+  eqb,
+  unwrap_or,
+  Bool,
+  true,
+  List,
+  [],
+  ◌∷◌,
+  ◌++◌,
+  length,
+  take,
+  drop,
+  get_or,
+  codes,
+  All,
+  Contains,
+  Option,
+  Some,
+  None,
+  refl,
+  sym,
+  ap,
+  subst,
+  ◌∙◌,
+  append_assoc,
+  append-nil,
+  length-append,
+  take-append-drop,
+  arith,
+}
 use Rattle.std.proofs.lemmas.Bool.{eqb-true}
 use Rattle.std.proofs.lemmas.Map.Views.{Contains-from_any}
 use Rattle.std.proofs.lemmas.List.{length-take-le, take-append-le, take_all}
@@ -45,11 +82,15 @@ use Rattle.road_network.specs.Roads.{Roads}
 pub dropped_end : (rest at : List ℕ) (round : Option ℕ) → rest ≡ start_text round ++ at → at ≡ [] → IsDropped rest
 dropped_end rest at round is none = (round, None, is ∙ ap (λ t. start_text round ++ t) none)
 
-pub dropped_done : (rest at line after : List ℕ) (round : Option ℕ) (n : ℕ) → rest ≡ start_text round ++ at → at ≡ line ++ 10 ∷ after → line ≡ numbered (codes "done ") n → after ≡ [] → IsDropped rest
+pub dropped_done : (rest at line after : List ℕ) (round : Option ℕ) (n : ℕ) → rest ≡ start_text round ++ at → at ≡ line ++ 10 ∷ after →
+    line ≡ numbered (codes "done ") n → after ≡ [] → IsDropped rest
 unfolding end_text
-dropped_done rest at line after round n is cut told none =
-    (round, Some n, is ∙ ap (λ t. start_text round ++ t)
-    (cut ∙ (λ i. told i ++ 10 ∷ none i) ∙ sym (one_text (numbered (codes "done ") n) []) ∙ append-nil (lines_text (numbered (codes "done ") n ∷ []))))
+dropped_done rest at line after round n is cut told none = (
+  round,
+  Some n,
+  is ∙ ap (λ t. start_text round ++ t)
+      (cut ∙ (λ i. told i ++ 10 ∷ none i) ∙ sym (one_text (numbered (codes "done ") n) []) ∙ append-nil (lines_text (numbered (codes "done ") n ∷ []))),
+)
 
 pub dropped_none : (rest : List ℕ) → rest ≡ [] → IsDropped rest
 dropped_none rest none = (None, None, none)
@@ -68,7 +109,8 @@ row_text position e plain =
     ∙ sym (append-nil (lines_text (entry_line position e ∷ []))) ∙ one_text (entry_line position e) []
 
 close_text : (position : ℕ) (batch : Batch) (outcome : Outcome) (rest : List ℕ)
-    → entry_text true position (close_of batch outcome) ++ rest ≡ entry_line position (close_of batch outcome) ++ 10 ∷ (lines_text (block_lines true batch.number outcome) ++ rest)
+    → entry_text true position (close_of batch outcome) ++ rest ≡ entry_line position (close_of batch outcome) ++ 10 ∷
+    (lines_text (block_lines true batch.number outcome) ++ rest)
 close_text position batch outcome rest = first_line (entry_line position (close_of batch outcome)) (block_lines true batch.number outcome) rest
 
 joined : (read start line after : List ℕ) → read ++ (start ++ (line ++ 10 ∷ after)) ≡ (read ++ (start ++ (line ++ 10 ∷ []))) ++ after
@@ -93,14 +135,24 @@ module _ (settings : Settings) (roads : Roads) (vehicles : List Vehicle) (judged
       let same : number ≡ n = ap (λ o. unwrap_or o 0) is in
       omega (arith, named, same, in_round.own.0)
 
-  named_in : (read : List ℕ) (s : Stand) (round : Option ℕ) (n : ℕ) → IsReading settings roads vehicles judged read s → StandsIn s.last s.open_batch round n → n ≤ 1000000000
+  named_in : (read : List ℕ) (s : Stand) (round : Option ℕ) (n : ℕ) → IsReading settings roads vehicles judged read s → StandsIn s.last s.open_batch round n →
+      n ≤ 1000000000
   named_in read s None n is stands = named_last read s n is stands
   named_in read s (Some round) n is stands = stands.2
 
-  pub same_book : (read : List ℕ) (s : Stand) (b : BookView) → IsReading settings roads vehicles judged read s → b.nodes ≡ s.book.nodes → b.wait ≡ s.book.wait → b.state ≡ s.book.state
+  pub same_book : (read : List ℕ) (s : Stand) (b : BookView) → IsReading settings roads vehicles judged read s → b.nodes ≡ s.book.nodes → b.wait ≡ s.book.wait →
+      b.state ≡ s.book.state
       → next_position b.first b.entries ≡ next_position s.book.first s.book.entries → IsReading settings roads vehicles judged read (record s { book = b })
   same_book _ _ b (IsReading.at_start c open_batch notices start) nodes wait state position =
-      IsReading.at_start b open_batch notices (record { nodes = nodes ∙ start.nodes; wait = wait ∙ start.wait; state = state ∙ start.state; position = position ∙ start.position; closed = start.closed; none = start.none })
+      IsReading.at_start b open_batch notices (record {
+        nodes = nodes ∙ start.nodes;
+        wait = wait ∙ start.wait;
+        state = state ∙ start.state;
+        position =
+            position ∙ start.position;
+        closed = start.closed;
+        none = start.none;
+      })
   same_book _ _ b (IsReading.in_round before front row rows done j number c open_batch notices is) nodes wait state position =
       IsReading.in_round before front row rows done j number b open_batch notices (record {
         told = is.told;
@@ -123,7 +175,8 @@ module _ (settings : Settings) (roads : Roads) (vehicles : List Vehicle) (judged
         good = is.good;
       })
 
-  fresh_reading : (read : List ℕ) (s : Stand) → IsReading settings roads vehicles judged read s → IsReading settings roads vehicles judged read (record s { book = fresh s.book })
+  fresh_reading : (read : List ℕ) (s : Stand) → IsReading settings roads vehicles judged read s →
+      IsReading settings roads vehicles judged read (record s { book = fresh s.book })
   fresh_reading read s is = same_book read s (fresh s.book) is refl refl refl (omega (arith, next-low s.book.first s.book.entries))
 
   module _ (whole : List ℕ) (last : Option ℕ) (b : BookView) (open_batch : Option Batch) (notices : List Notice) (round : Option ℕ) (line after : List ℕ)
@@ -136,20 +189,24 @@ module _ (settings : Settings) (roads : Roads) (vehicles : List Vehicle) (judged
         let named = named_in reached.read (stand last b open_batch notices) round number reached.reading stands in
         let lawful : IsBehind 0 row = record { round = omega arith; number = named; lane = takes.within; stands = takes.stands } in
         let text : entry_text true (next_position b.first b.entries) e ≡ line ++ 10 ∷ [] =
-            row_text (next_position b.first b.entries) e (no_close takes.lane takes.command takes.stands) ∙ ap (λ l. l ++ 10 ∷ []) (sym takes.line_is) in
+        row_text (next_position b.first b.entries) e (no_close takes.lane takes.command takes.stands) ∙ ap (λ l. l ++ 10 ∷ []) (sym takes.line_is) in
         record {
           read = reached.read ++ (start_text round ++ (line ++ 10 ∷ []));
           parts = reached.parts ∙ joined reached.read (start_text round) line after;
-          reading = subst (λ o. IsReading settings roads vehicles judged (reached.read ++ (start_text round ++ (line ++ 10 ∷ []))) (stand (Some number) now o notices)) (sym takes.now_is)
-              (subst (λ t. IsReading settings roads vehicles judged (reached.read ++ (start_text round ++ t)) (stand (Some number) now (last_sealed open_batch takes.sealed) notices)) text
-              (reads_row settings roads vehicles judged reached.read (stand last b open_batch notices) round row takes.reply now takes.sealed reached.reading stands lawful takes.free takes.applied takes.sealed_is));
+          reading = subst (λ o. IsReading settings roads vehicles judged (reached.read ++ (start_text round ++ (line ++ 10 ∷ [])))
+              (stand (Some number) now o notices)) (sym takes.now_is)
+              (subst (λ t. IsReading settings roads vehicles judged (reached.read ++ (start_text round ++ t))
+              (stand (Some number) now (last_sealed open_batch takes.sealed) notices)) text
+              (reads_row settings roads vehicles judged reached.read (stand last b open_batch notices) round row takes.reply now takes.sealed reached.reading
+              stands lawful takes.free takes.applied takes.sealed_is));
         }
 
   no_start : (last : Option ℕ) (batch : Batch) (round : Option ℕ) (number : ℕ) → StandsIn last (Some batch) round number → start_text round ≡ []
   no_start last batch None number stands = refl
   no_start last batch (Some n) number stands = absurd (let no : Some batch ≡ None = stands.3 in cc)
 
-  pub close_reached : (whole : List ℕ) (last : Option ℕ) (b : BookView) (batch : Batch) (notices : List Notice) (round : Option ℕ) (line after rest : List ℕ) (number : ℕ) (now : BookView) (told : List Notice)
+  pub close_reached : (whole : List ℕ) (last : Option ℕ) (b : BookView) (batch : Batch) (notices : List Notice) (round : Option ℕ) (line after rest : List ℕ)
+      (number : ℕ) (now : BookView) (told : List Notice)
       → Reached settings roads vehicles judged whole (stand last b (Some batch) notices) (start_text round ++ (line ++ 10 ∷ after))
       → StandsIn last (Some batch) round number → TakesClose settings roads judged b now batch line after rest told
       → Reached settings roads vehicles judged whole (stand last now None told) rest
@@ -165,11 +222,13 @@ module _ (settings : Settings) (roads : Roads) (vehicles : List Vehicle) (judged
             ∙ sym (append_assoc reached.read text rest);
         reading = subst (λ c. IsReading settings roads vehicles judged (reached.read ++ text) (stand last c None told)) (sym enters.fresh_is)
             (fresh_reading (reached.read ++ text) (stand last enters.closed None told)
-            (reads_close settings roads vehicles judged reached.read last b batch notices takes.outcome enters.reply enters.closed told reached.reading enters.applied enters.told_is takes.tells.good));
+            (reads_close settings roads vehicles judged reached.read last b batch notices takes.outcome enters.reply enters.closed told reached.reading
+            enters.applied enters.told_is takes.tells.good));
       }
 
   -- at the start and at the end
-  pub reached_start : (whole : List ℕ) (b : BookView) (notices : List Notice) → b ≡ record { nodes = roads.nodes; wait = settings.wait; first = 0; base = opening vehicles; entries = []; state = opening vehicles; spare = 0 } → notices ≡ []
+  pub reached_start : (whole : List ℕ) (b : BookView) (notices : List Notice) → b ≡ record
+      { nodes = roads.nodes; wait = settings.wait; first = 0; base = opening vehicles; entries = []; state = opening vehicles; spare = 0 } → notices ≡ []
       → Reached settings roads vehicles judged whole (stand None b None notices) whole
   reached_start whole b notices is none = record {
     read = [];
@@ -231,7 +290,8 @@ module _ (settings : Settings) (roads : Roads) (vehicles : List Vehicle) (judged
       }
 
   -- what the step functions know of a stand
-  pub reached_nodes : (whole rest : List ℕ) (s : Stand) → Reached settings roads vehicles judged whole s rest → IsBook s.book → (b : Batch) → s.open_batch ≡ Some b → All (λ node. Contains roads.nodes node) (named_nodes b)
+  pub reached_nodes : (whole rest : List ℕ) (s : Stand) → Reached settings roads vehicles judged whole s rest → IsBook s.book → (b : Batch) →
+      s.open_batch ≡ Some b → All (λ node. Contains roads.nodes node) (named_nodes b)
   reached_nodes whole rest s reached book b is =
       let told : IsTold settings roads vehicles judged reached.read s = finishes settings roads vehicles judged reached.read s reached.reading in
       known_nodes s.book.nodes roads.nodes (named_nodes b) told.nodes (book.named.sealed b (told.sealed ∙ is))

@@ -104,12 +104,7 @@ fn enter_close(
 
 /// Whether the line is that of the close of this batch, answered `closed`. The outcome isn't in the line.
 #[tactic(none)]
-fn is_close_line(
-    alloc: Global,
-    line: &[u8],
-    position: u64,
-    batch: u64,
-) -> Result<bool, OutOfMemory>
+fn is_close_line(alloc: Global, line: &[u8], position: u64, batch: u64) -> Result<bool, OutOfMemory>
     ensures { IfOk result (λ yes. IsTrue yes → (outcome : OneOutcome) → line.now ≡ entry_line position (record { lane = 0; command = Closes batch outcome; reply = IsClosed })) }
 {
     let outcome = Outcome {

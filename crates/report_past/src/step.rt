@@ -99,9 +99,7 @@ fn close_taken<'a, G: Gate>(
     let Some(snapshot) = open.take() else {
         return Err(wrong_line(context.text, item.at));
     };
-    let closed = take_close(
-        rt, book, notices, &snapshot, item.line, item.after, context,
-    );
+    let closed = take_close(rt, book, notices, &snapshot, item.line, item.after, context);
     drop(snapshot);
     match closed {
         Ok(Some(rest)) => Ok(rest),

@@ -20,8 +20,41 @@ pub use Rattle.request_book.specs.Book.{BookView, IsBook, next_position, opening
 unfoldable pub use Rattle.ridepool.specs.Audit.{yes_text}
 pub use Rattle.ridepool.specs.Audit.{AnswersAudit, Confirms, EndsAudit, IsRightReport}
 pub use Rattle.ridepool.specs.Drive.{AnswersDrive, DrivesDay, EndsDrive}
-pub use Rattle.ridepool.specs.Inputs.{AreGood, AreReadFrom, AreUntouched, CameTo, HasNoWriteFault, Inputs, IsSourceTooLong, IsStop, IsWithin, Reads, StopsOrReads, TellInputs, Tells, most_bytes}
-pub use Rattle.ridepool.specs.Live.{AnswersLive, AreLimited, AreRowsOf, BeginsLive, EndsLive, ExplainsLive, HasHead, IsFaultlessLive, IsLiveStop, IsSilentCall, IsUnbegun, LiveCall, LiveInputs, LiveSeen, live_head, opened_book, words_of_run}
+pub use Rattle.ridepool.specs.Inputs.{
+  AreGood,
+  AreReadFrom,
+  AreUntouched,
+  CameTo,
+  HasNoWriteFault,
+  Inputs,
+  IsSourceTooLong,
+  IsStop,
+  IsWithin,
+  Reads,
+  StopsOrReads,
+  TellInputs,
+  Tells,
+  most_bytes,
+}
+pub use Rattle.ridepool.specs.Live.{
+  AnswersLive,
+  AreLimited,
+  AreRowsOf,
+  BeginsLive,
+  EndsLive,
+  ExplainsLive,
+  HasHead,
+  IsFaultlessLive,
+  IsLiveStop,
+  IsSilentCall,
+  IsUnbegun,
+  LiveCall,
+  LiveInputs,
+  LiveSeen,
+  live_head,
+  opened_book,
+  words_of_run,
+}
 pub use Rattle.ridepool.specs.Load.{AnswersLoad, AreTexts}
 unfoldable pub use Rattle.ridepool.specs.Reading.{network_in, script_in, vehicles_in}
 pub use Rattle.ridepool.specs.Reading.{IsFleetIn, first_version, in_rows, own_fault}

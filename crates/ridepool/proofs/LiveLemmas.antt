@@ -1,6 +1,61 @@
 -- A call of `live`, from its steps.
 use Rattle.std.proofs.Common.{◌≡◌, ℕ, ◌≤◌, List, Option, Some, None, Result, Ok, Err, MatchResult, refl, sym, ap, subst, inl, inr, arith, ◌⊎◌}
-use Rattle.ridepool.proofs.Common.{Appends, IsReady, Change, SinkView, WritesText, ReportFault, lines_in, Which, Rose, Input, BookView, fault_of, Settings, NotifierView, Roads, AreGood, IsWithin, Reads, AnswersLive, AreLimited, AreRowsOf, BeginsLive, EndsLive, ExplainsLive, HasHead, IsFaultlessLive, IsLiveStop, IsSilentCall, IsUnbegun, LiveCall, LiveInputs, LiveSeen, live_head, opened_book, words_of_run, network_in, vehicles_in, IsUntouched, SourceView, RunStatus, Done, Words, Network, Fleet, Script, TooLong, ReadFault, WriteFault, OutOfMemory, Report, HidesNoMemory, IsUnread, StopsAt, status_of}
+use Rattle.ridepool.proofs.Common.{
+  Appends,
+  IsReady,
+  Change,
+  SinkView,
+  WritesText,
+  ReportFault,
+  lines_in,
+  Which,
+  Rose,
+  Input,
+  BookView,
+  fault_of,
+  Settings,
+  NotifierView,
+  Roads,
+  AreGood,
+  IsWithin,
+  Reads,
+  AnswersLive,
+  AreLimited,
+  AreRowsOf,
+  BeginsLive,
+  EndsLive,
+  ExplainsLive,
+  HasHead,
+  IsFaultlessLive,
+  IsLiveStop,
+  IsSilentCall,
+  IsUnbegun,
+  LiveCall,
+  LiveInputs,
+  LiveSeen,
+  live_head,
+  opened_book,
+  words_of_run,
+  network_in,
+  vehicles_in,
+  IsUntouched,
+  SourceView,
+  RunStatus,
+  Done,
+  Words,
+  Network,
+  Fleet,
+  Script,
+  TooLong,
+  ReadFault,
+  WriteFault,
+  OutOfMemory,
+  Report,
+  HidesNoMemory,
+  IsUnread,
+  StopsAt,
+  status_of,
+}
 use Rattle.std.specs.Result.{IsErrOf}
 use Rattle.live_dispatch.specs.Live.{BeginsRows, RunsRows}
 use Rattle.live_dispatch.specs.declared.fault.LiveFault.{LiveFault}
@@ -89,7 +144,8 @@ module _ (i : LiveInputs) (seen : LiveSeen) (version : ScriptVersion) (next : Op
 
 -- why a call ended before its rows
 module _ (call : LiveCall) (silent : IsUnbegun call) where
-  pub words-stop : (status : RunStatus) → IsUntouched call.network → IsUntouched call.fleet → RefusesWords (words_of_run call.words) status → ExplainsLive call status
+  pub words-stop : (status : RunStatus) → IsUntouched call.network → IsUntouched call.fleet → RefusesWords (words_of_run call.words) status →
+      ExplainsLive call status
   words-stop (Words fault) network fleet why = ExplainsLive.refused fault why network fleet silent
   words-stop OutOfMemory network fleet why = ExplainsLive.unstored silent
   words-stop _ network fleet why = absurd why
@@ -130,7 +186,8 @@ no-stop call _ f (IsLiveStop.fleet_refused fault why) =
 no-stop call _ f (IsLiveStop.fleet_long why) = not_long file.Fleet call.fleet f.fleet_text f.fleet why.2
 no-stop call _ f (IsLiveStop.fleet_unread why) = f.fleet.faultless why.2.1
 
-has-header : (script : Option (List ℕ)) (text : List ℕ) (rows : List ScriptRow) (why : HeaderFault) → script ≡ Some text → live_rows (lines_in text) ≡ Ok rows → HasNoHeader script why → ⊥
+has-header : (script : Option (List ℕ)) (text : List ℕ) (rows : List ScriptRow) (why : HeaderFault) → script ≡ Some text → live_rows (lines_in text) ≡ Ok rows →
+    HasNoHeader script why → ⊥
 has-header script text rows why told header other =
     let P : Option (List ℕ) → Type 0 = λ s. HasNoHeader s why in ok_is_no_err (live_rows (lines_in text)) rows why header (subst P told other)
 

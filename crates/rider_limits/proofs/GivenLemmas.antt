@@ -1,5 +1,36 @@
 use Rattle.std.proofs.lemmas.Bool.Decides.{nat_tests}
-use Rattle.std.proofs.Common.{rules, ◌≡◌, ℕ, suc, ◌+◌, ◌<◌, ◌≤◌, ◌^◌, Bool, true, false, not, cond, List, [], ◌∷◌, ◌++◌, Option, Some, None, length, get_or, take, nat_eq, refl, ap, subst, ◌∙◌, lit≤, arith}
+use Rattle.std.proofs.Common.{
+  rules,
+  ◌≡◌,
+  ℕ,
+  suc,
+  ◌+◌,
+  ◌<◌,
+  ◌≤◌,
+  ◌^◌,
+  Bool,
+  true,
+  false,
+  not,
+  cond,
+  List,
+  [],
+  ◌∷◌,
+  ◌++◌,
+  Option,
+  Some,
+  None,
+  length,
+  get_or,
+  take,
+  nat_eq,
+  refl,
+  ap,
+  subst,
+  ◌∙◌,
+  lit≤,
+  arith,
+}
 use Rattle.std.specs.List.{list_all, prefix_len}
 use Rattle.std.specs.Option.{option_map, option_or}
 use Rattle.std.proofs.lemmas.List.{append_assoc, length-append, take_at, drop_at, length_push}
@@ -60,14 +91,17 @@ option_of-named command key word text is = search (
 )
 
 -- a key and a text without a fault, where the command has the key
-has-faultless : (key : Key) (earlier : List (List ℕ)) (place : ℕ) (text : List ℕ) (has : Bool) → option_fault earlier place (option_map (λ k. (k, text)) (cond has (Some key) None)) ≡ None → accepts (about key).takes text ≡ true
+has-faultless : (key : Key) (earlier : List (List ℕ)) (place : ℕ) (text : List ℕ) (has : Bool) →
+    option_fault earlier place (option_map (λ k. (k, text)) (cond has (Some key) None)) ≡ None → accepts (about key).takes text ≡ true
 has-faultless key earlier place text true none = grind (arith, nat_tests)
 has-faultless key earlier place text false none = absurd cc
 
 -- a word without a fault gives a key of the command a text that the key takes
-faultless : (command : Subcommand) (key : Key) (earlier : List (List ℕ)) (place : ℕ) (word text : List ℕ) → word ≡ (about key).name ++ 61 ∷ text → option_fault earlier place (option_of command word) ≡ None → accepts (about key).takes text ≡ true
+faultless : (command : Subcommand) (key : Key) (earlier : List (List ℕ)) (place : ℕ) (word text : List ℕ) → word ≡ (about key).name ++ 61 ∷ text →
+    option_fault earlier place (option_of command word) ≡ None → accepts (about key).takes text ≡ true
 faultless command key earlier place word text is none =
-    has-faultless key earlier place text ((about key).has command) (subst (λ o. option_fault earlier place o ≡ None) (option_of-named command key word text is) none)
+    has-faultless key earlier place text ((about key).has command) (subst (λ o. option_fault earlier place o ≡ None) (option_of-named command key word text is)
+    none)
 
 -- a text that words give stands in the first of them that begins with the key
 text_given-at : (key : List ℕ) (words : List (List ℕ)) (text : List ℕ) → text_given key words ≡ Some text →

@@ -41,7 +41,8 @@ step-plain : (s : State) (c : ℕ) → Going s → IsPlain c → eqb c 44 ≡ fa
 step-plain st.InField c going plain other =
     λ i. cond (other i) (st.StartField, act.EndField) (cond (plain.1 i || plain.2 i) (after_end term.CRLF c, act.EndRecord) (st.InField, act.Copy))
 step-plain st.StartField c going plain other =
-    λ i. cond (true && plain.0 i) (st.InQuoted, act.Skip) (cond (other i) (st.StartField, act.EndField) (cond (plain.1 i || plain.2 i) (after_end term.CRLF c, act.EndRecord) (st.InField, act.Copy)))
+    λ i. cond (true && plain.0 i) (st.InQuoted, act.Skip) (cond (other i) (st.StartField, act.EndField)
+    (cond (plain.1 i || plain.2 i) (after_end term.CRLF c, act.EndRecord) (st.InField, act.Copy)))
 step-plain _ c going plain other = absurd going
 
 -- a plain byte begins a record as it goes on in one
@@ -51,14 +52,16 @@ step-first c plain = λ i. cond (plain.1 i || plain.2 i) (st.StartRecord, act.Sk
 -- the next record, by what its first byte does
 abbrev after : List (List ℕ) → List ℕ → ℕ → List ℕ → State × Action → Option Read
 after fields field c rest p =
-    cond (is_end p.1) (Some (fields_after p.1 fields field, p.0, rest)) (next_record default_config p.0 (fields_after p.1 fields field) (field_after p.1 c field) rest)
+    cond (is_end p.1) (Some (fields_after p.1 fields field, p.0, rest)) (next_record default_config p.0 (fields_after p.1 fields field)
+    (field_after p.1 c field) rest)
 
 -- a line gives one record, alone and before others
 pub record IsLineRead (s : State) (fields : List (List ℕ)) (field line : List ℕ) (all : List (List ℕ)) : Type 0 where
   pub alone : next_record default_config s fields field line ≡ Some (all, st.StartRecord, [])
   pub followed : (tail : List ℕ) → next_record default_config s fields field (line ++ 10 ∷ tail) ≡ Some (all, st.StartRecord, tail)
 
-read-end : (s : State) (fields : List (List ℕ)) (field : List ℕ) → Going s → next_record default_config s fields field [] ≡ Some (fields ++ field ∷ [], st.StartRecord, [])
+read-end : (s : State) (fields : List (List ℕ)) (field : List ℕ) → Going s → next_record default_config s fields field [] ≡ Some
+    (fields ++ field ∷ [], st.StartRecord, [])
 unfolding next_record
 read-end st.StartField fields field going = refl
 read-end st.InField fields field going = refl
@@ -73,13 +76,26 @@ line-read s fields field (c ∷ line) going plain = by (λ t fs f goes. line-rea
     by : ((t : State) (fs : List (List ℕ)) (f : List ℕ) → Going t → (all : List (List ℕ)) × IsLineRead t fs f line all) → (b : Bool) → eqb c 44 ≡ b
         → (all : List (List ℕ)) × IsLineRead s fields field (c ∷ line) all
     by behind true is =
-        let comma : step default_config s c ≡ (st.StartField, act.EndField) = subst (λ k. step default_config s k ≡ (st.StartField, act.EndField)) (sym (eqb-true c 44 is)) (step-comma s going) in
-        let (all, r) = behind st.StartField (fields ++ field ∷ []) [] tt in
-        (all, record { alone = ap (after fields field c line) comma ∙ r.alone; followed = λ tail. ap (after fields field c (line ++ 10 ∷ tail)) comma ∙ r.followed tail })
+        let comma : step default_config s c ≡ (st.StartField, act.EndField) = subst (λ k. step default_config s k ≡ (st.StartField, act.EndField))
+        (sym (eqb-true c 44 is)) (step-comma s going) in
+        let (all, r) = behind st.StartField (fields ++ field ∷ []) [] tt in (
+          all,
+          record {
+            alone = ap (after fields field c line) comma ∙ r.alone;
+            followed = λ tail. ap (after fields field c (line ++ 10 ∷ tail)) comma ∙
+                r.followed tail;
+          },
+        )
     by behind false is =
         let copied = step-plain s c going plain.0 is in
-        let (all, r) = behind st.InField fields (field ++ c ∷ []) tt in
-        (all, record { alone = ap (after fields field c line) copied ∙ r.alone; followed = λ tail. ap (after fields field c (line ++ 10 ∷ tail)) copied ∙ r.followed tail })
+        let (all, r) = behind st.InField fields (field ++ c ∷ []) tt in (
+          all,
+          record {
+            alone = ap (after fields field c line) copied ∙ r.alone;
+            followed = λ tail. ap (after fields field c (line ++ 10 ∷ tail)) copied ∙
+                r.followed tail;
+          },
+        )
 
 -- a line that isn't empty, from the start of a record
 pub whole-read : (c : ℕ) (line : List ℕ) → AllPlain (c ∷ line) → (all : List (List ℕ)) × IsLineRead st.StartRecord [] [] (c ∷ line) all
@@ -105,7 +121,8 @@ onto-plain : (c : ℕ) (parts : List (List ℕ)) → IsPlain c → AllLinesPlain
 onto-plain c [] here plain = ((here, tt), tt)
 onto-plain c (part ∷ parts) here plain = ((here, plain.0), plain.1)
 
-split-byte : (c : ℕ) (parts : List (List ℕ)) (one two : Bool) → eqb c 10 ≡ one → eqb c 13 ≡ two → eqb c 34 ≡ false → AllLinesPlain parts → AllLinesPlain (cond (one || two) ([] ∷ parts) (onto_first c parts))
+split-byte : (c : ℕ) (parts : List (List ℕ)) (one two : Bool) → eqb c 10 ≡ one → eqb c 13 ≡ two → eqb c 34 ≡ false → AllLinesPlain parts →
+    AllLinesPlain (cond (one || two) ([] ∷ parts) (onto_first c parts))
 split-byte c parts true two feed ret quote plain = (tt, plain)
 split-byte c parts false true feed ret quote plain = (tt, plain)
 split-byte c parts false false feed ret quote plain = onto-plain c parts (quote, ret, feed) plain
@@ -113,7 +130,8 @@ split-byte c parts false false feed ret quote plain = onto-plain c parts (quote,
 split-plain : (text : List ℕ) → (Contains text 34 → ⊥) → AllLinesPlain (slice_split ends_line text)
 split-plain [] none = (tt, tt)
 split-plain (c ∷ text) none =
-    split-byte c (slice_split ends_line text) (eqb c 10) (eqb c 13) refl refl (no-quote c text none (eqb c 34) refl) (split-plain text (none-behind c text none))
+    split-byte c (slice_split ends_line text) (eqb c 10) (eqb c 13) refl refl (no-quote c text none (eqb c 34) refl)
+    (split-plain text (none-behind c text none))
 
 take-plain : (n : ℕ) (line : List ℕ) → AllPlain line → AllPlain (take n line)
 take-plain zero line plain = tt

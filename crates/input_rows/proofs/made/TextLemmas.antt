@@ -1,6 +1,47 @@
 use Rattle.std.proofs.lemmas.Bool.Decides.{nat_tests}
-use Rattle.std.proofs.Common.{rules, ◌≡◌, ◌≢◌, ℕ, zero, suc, ◌+◌, ◌<◌, ◌≤◌, not, cond, eqb, List, [], ◌∷◌, Some, None, Ok, map, length, refl, ap, ◌∙◌, add-one, arith}
-use Rattle.input_rows.proofs.Common.{position_from, length-map, next_record, default_config, records_from, strip_bom, table_of, Field, field_text, text_under, csv_line, csv_lines, fleet_header, network_header}
+use Rattle.std.proofs.Common.{
+  rules,
+  ◌≡◌,
+  ◌≢◌,
+  ℕ,
+  zero,
+  suc,
+  ◌+◌,
+  ◌<◌,
+  ◌≤◌,
+  not,
+  cond,
+  eqb,
+  List,
+  [],
+  ◌∷◌,
+  Some,
+  None,
+  Ok,
+  map,
+  length,
+  refl,
+  ap,
+  ◌∙◌,
+  add-one,
+  arith,
+}
+use Rattle.input_rows.proofs.Common.{
+  position_from,
+  length-map,
+  next_record,
+  default_config,
+  records_from,
+  strip_bom,
+  table_of,
+  Field,
+  field_text,
+  text_under,
+  csv_line,
+  csv_lines,
+  fleet_header,
+  network_header,
+}
 use Rattle.std.proofs.lemmas.Bool.{eq-eqb}
 use Rattle.std.proofs.lemmas.List.{length-append}
 use Rattle.pool_io.specs.lemmas.Records.{header_fields, records_of}
@@ -52,7 +93,8 @@ pub IsHeader-fleet : IsHeader fleet_header 4
 unfolding next_record strip_bom
 IsHeader-fleet = record { read = λ tail. refl; marked = λ tail. refl; same = refl; columns = refl }
 
-records_of-under : (header : List ℕ) (k : ℕ) (rows : List (List Field)) → IsHeader header k → 2 ≤ k → RowsFit k rows → records_of (text_under header rows) ≡ header_fields header ∷ map fields_of rows
+records_of-under : (header : List ℕ) (k : ℕ) (rows : List (List Field)) → IsHeader header k → 2 ≤ k → RowsFit k rows →
+    records_of (text_under header rows) ≡ header_fields header ∷ map fields_of rows
 unfolding records_from
 records_of-under header k rows is two fit = search (rules, length-append, rows_long, add-one, rows_read)
 

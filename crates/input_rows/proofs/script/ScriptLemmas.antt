@@ -1,5 +1,75 @@
-use Rattle.std.proofs.Common.{rules, ◌≡◌, ◌≢◌, ◌⊎◌, ℕ, ◌+◌, ◌-◌, ◌<◌, ◌≤◌, true, false, cond, eqb, List, [], ◌∷◌, ◌++◌, map, length, get_or, set, Result, Ok, Err, refl, sym, ap, subst, ◌∙◌, inl, inr, replicate, ⊎_elim, arith}
-use Rattle.input_rows.proofs.Common.{list_any, cases_order, and_parts, map-append, length_push, set_at, get_or_at, get_or_default, All-nil, All-push, All-weaker, All-same, ◌>>=◌, all_or_first, all_or_first-err, ScriptFault, ScriptRow, ScriptVersion, script_row_in, IsBehind, NumberedLanes, round_of_last, joins, with_script_row, empty_round, with_command, round_before, round_of, script_of, script_row_at, rounds_of, IsRound, MayStand, Command}
+use Rattle.std.proofs.Common.{
+  rules,
+  ◌≡◌,
+  ◌≢◌,
+  ◌⊎◌,
+  ℕ,
+  ◌+◌,
+  ◌-◌,
+  ◌<◌,
+  ◌≤◌,
+  true,
+  false,
+  cond,
+  eqb,
+  List,
+  [],
+  ◌∷◌,
+  ◌++◌,
+  map,
+  length,
+  get_or,
+  set,
+  Result,
+  Ok,
+  Err,
+  refl,
+  sym,
+  ap,
+  subst,
+  ◌∙◌,
+  inl,
+  inr,
+  replicate,
+  ⊎_elim,
+  arith,
+}
+use Rattle.input_rows.proofs.Common.{
+  list_any,
+  cases_order,
+  and_parts,
+  map-append,
+  length_push,
+  set_at,
+  get_or_at,
+  get_or_default,
+  All-nil,
+  All-push,
+  All-weaker,
+  All-same,
+  ◌>>=◌,
+  all_or_first,
+  all_or_first-err,
+  ScriptFault,
+  ScriptRow,
+  ScriptVersion,
+  script_row_in,
+  IsBehind,
+  NumberedLanes,
+  round_of_last,
+  joins,
+  with_script_row,
+  empty_round,
+  with_command,
+  round_before,
+  round_of,
+  script_of,
+  script_row_at,
+  rounds_of,
+  IsRound,
+  MayStand,
+  Command,
+}
 use Rattle.std.specs.List.{All}
 use Rattle.std.proofs.lemmas.List.{get_or-replicate, get_or-set_other, get_or-set_same, get_or_past, length-set}
 use Rattle.std.proofs.lemmas.List.Elements.{All-get_or, All-set}
@@ -9,15 +79,20 @@ use Rattle.pool_base.proofs.lemmas.DistinctLemmas.{any-more, distinct-push_new, 
 use Rattle.input_rows.proofs.script.GroupLemmas.{map-agree, round_of-push, round_of-push_other, round_of-none}
 
 -- a row that joins the last round
-pub with_script_row-joins : (rounds : List NumberedLanes) (script_row : ScriptRow) → joins rounds script_row.round ≡ true → with_script_row rounds script_row ≡ set rounds (length rounds - 1) (with_command (round_of_last rounds) script_row.lane script_row.command)
+pub with_script_row-joins : (rounds : List NumberedLanes) (script_row : ScriptRow) → joins rounds script_row.round ≡ true →
+    with_script_row rounds script_row ≡ set rounds (length rounds - 1) (with_command (round_of_last rounds) script_row.lane script_row.command)
 unfolding with_script_row
-with_script_row-joins rounds script_row is = ap (λ b. cond b (set rounds (length rounds - 1) (with_command (round_of_last rounds) script_row.lane script_row.command)) (rounds ++ with_command (empty_round script_row.round) script_row.lane script_row.command ∷ [])) is
+with_script_row-joins rounds script_row is =
+    ap (λ b. cond b (set rounds (length rounds - 1) (with_command (round_of_last rounds) script_row.lane script_row.command))
+    (rounds ++ with_command (empty_round script_row.round) script_row.lane script_row.command ∷ [])) is
 
 -- a row that begins a round
 pub with_script_row-begins : (rounds : List NumberedLanes) (script_row : ScriptRow) → joins rounds script_row.round ≡ false →
     with_script_row rounds script_row ≡ rounds ++ with_command (empty_round script_row.round) script_row.lane script_row.command ∷ []
 unfolding with_script_row
-with_script_row-begins rounds script_row is = ap (λ b. cond b (set rounds (length rounds - 1) (with_command (round_of_last rounds) script_row.lane script_row.command)) (rounds ++ with_command (empty_round script_row.round) script_row.lane script_row.command ∷ [])) is
+with_script_row-begins rounds script_row is =
+    ap (λ b. cond b (set rounds (length rounds - 1) (with_command (round_of_last rounds) script_row.lane script_row.command))
+    (rounds ++ with_command (empty_round script_row.round) script_row.lane script_row.command ∷ [])) is
 
 -- a round with one more command is a round
 with_command-kept : (round : NumberedLanes) (lane : ℕ) (command : Command) → IsRound round → lane < 16 → MayStand lane command →

@@ -1,6 +1,31 @@
 -- What the lines of a block tell is what it is made of.
 use Rattle.std.proofs.Common.{◌≡◌, ℕ, true, false, List, [], ◌∷◌, ◌++◌, map, append_assoc, append-nil, refl, sym, ap, ◌∙◌, arith, fold, ◌≤◌, length, IfSome}
-use Rattle.report_audit.proofs.Common.{All-cons, All-head, All-tail, BlockLine, Expired, Overflow, Lapsed, Late, Alone, Shared, TripRow, Trip, Out, Move, Branch, Leaf, Dead, End, Point, CanBeTold, BlockLists, nothing_told, told_by, with_line}
+use Rattle.report_audit.proofs.Common.{
+  All-cons,
+  All-head,
+  All-tail,
+  BlockLine,
+  Expired,
+  Overflow,
+  Lapsed,
+  Late,
+  Alone,
+  Shared,
+  TripRow,
+  Trip,
+  Out,
+  Move,
+  Branch,
+  Leaf,
+  Dead,
+  End,
+  Point,
+  CanBeTold,
+  BlockLists,
+  nothing_told,
+  told_by,
+  with_line,
+}
 use Rattle.std.specs.List.{All}
 use Rattle.dispatch_report.specs.declared.block_line.BlockLine.TheVariants.{Batch}
 use Rattle.dispatch_engine.specs.declared.outcome.point.Point.TheVariants as point

@@ -1,6 +1,29 @@
 -- By which point lines fail that tell what no outcome can.
 use Rattle.std.proofs.Common.{◌≢◌, ℕ, ◌<◌, ◌≤◌, true, List, Contains, length, IfSome, ⊎_elim, arith}
-use Rattle.report_audit.proofs.Common.{cases_lt, All-contains, Batch, point_place, Point, lines_of, BlockLine, TripRow, Trip, Late, LateText, TripRowText, TripText, Outcome, Settings, Roads, BeginsWithWrong, CanBeTold, HasTrips, judged_outcome, nothing_told, told_by}
+use Rattle.report_audit.proofs.Common.{
+  cases_lt,
+  All-contains,
+  Batch,
+  point_place,
+  Point,
+  lines_of,
+  BlockLine,
+  TripRow,
+  Trip,
+  Late,
+  LateText,
+  TripRowText,
+  TripText,
+  Outcome,
+  Settings,
+  Roads,
+  BeginsWithWrong,
+  CanBeTold,
+  HasTrips,
+  judged_outcome,
+  nothing_told,
+  told_by,
+}
 use Rattle.report_audit.proofs.block.NumberedLemmas.{vehicle_ids}
 use Rattle.report_audit.proofs.block.OutcomeLemmas.{judged_few, lines_are}
 use Rattle.report_audit.proofs.lemmas.points.VerdictLemmas.{last_place}
@@ -23,7 +46,8 @@ module _ (settings : Settings) (roads : Roads) (batch : Batch) (text : List ℕ)
       (λ q. told_below (told_by wrong.lines) 9 (λ h. told_before point.Graphs (omega (arith, late))) (λ h. told_before point.Late (omega (arith, late)))
       (λ h. told_before point.Trips (omega (arith, late))) (λ h. told_before point.Bound late) q (last_place q))))
 
-  breaks : (p : Point) (line : BlockLine) → (CanBeTold p (told_by wrong.lines) → AreShort p (told_by wrong.lines)) → Contains wrong.lines line → (IsShort p line → ⊥) → point_place found ≤ point_place p
+  breaks : (p : Point) (line : BlockLine) → (CanBeTold p (told_by wrong.lines) → AreShort p (told_by wrong.lines)) → Contains wrong.lines line →
+      (IsShort p line → ⊥) → point_place found ≤ point_place p
   breaks p line short stands long = not_above (point_place p) (point_place found) (λ (late : point_place p < point_place found).
       long (All-contains (IsShort p) wrong.lines line (all_short p nothing_told wrong.lines (short (told_before p late))).1 stands))
 

@@ -1,6 +1,30 @@
 -- A block in form is what some lists tell, printed.
 use Rattle.std.proofs.Common.{◌≡◌, ℕ, Bool, true, false, if◌then◌else◌, List, [], ◌∷◌, ◌++◌, drop, flat_map, map, append_assoc, refl, ap, arith}
-use Rattle.report_audit.proofs.Common.{All-cons, follow_on, last_place, BlockLine, Expired, Overflow, Lapsed, Late, Alone, Shared, TripRow, Trip, Out, Move, Cost, Bound, Nodes, Branch, Leaf, Dead, End, BlockLists, nothing_told}
+use Rattle.report_audit.proofs.Common.{
+  All-cons,
+  follow_on,
+  last_place,
+  BlockLine,
+  Expired,
+  Overflow,
+  Lapsed,
+  Late,
+  Alone,
+  Shared,
+  TripRow,
+  Trip,
+  Out,
+  Move,
+  Cost,
+  Bound,
+  Nodes,
+  Branch,
+  Leaf,
+  Dead,
+  End,
+  BlockLists,
+  nothing_told,
+}
 use Rattle.std.specs.List.{All}
 use Rattle.dispatch_report.specs.declared.block_line.BlockLine.TheVariants.{Batch}
 

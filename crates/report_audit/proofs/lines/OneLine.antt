@@ -1,6 +1,41 @@
 -- A text is that of one line of a block.
 use Rattle.std.proofs.Common.{◌≡◌, ℕ, ◌+◌, eqb, ◌*◌, ◌<◌, ◌≤◌, ◌^◌, List, ◌++◌, get_or, codes, Option, None, Some, false, refl, sym, ap, arith, rules}
-use Rattle.report_audit.proofs.Common.{eqb-false, append_cancel_left, stop_text, pair_line, numbered, signed, spaced, block_line_text, IsBlockLine, IsId, AreIds, FitsStop, both_texts, BothAre, order_text, IsOrder, PlannedStop, Expired, Overflow, Lapsed, Late, Alone, Shared, TripRow, Trip, Out, Move, Cost, Bound, Nodes, Branch, Leaf, Dead, End}
+use Rattle.report_audit.proofs.Common.{
+  eqb-false,
+  append_cancel_left,
+  stop_text,
+  pair_line,
+  numbered,
+  signed,
+  spaced,
+  block_line_text,
+  IsBlockLine,
+  IsId,
+  AreIds,
+  FitsStop,
+  both_texts,
+  BothAre,
+  order_text,
+  IsOrder,
+  PlannedStop,
+  Expired,
+  Overflow,
+  Lapsed,
+  Late,
+  Alone,
+  Shared,
+  TripRow,
+  Trip,
+  Out,
+  Move,
+  Cost,
+  Bound,
+  Nodes,
+  Branch,
+  Leaf,
+  Dead,
+  End,
+}
 use Rattle.dispatch_report.specs.declared.block_line.BlockLine.TheVariants.{Batch}
 use Rattle.std.specs.List.{All, flat_map}
 use Rattle.report_audit.proofs.lines.StopLemmas.{order_ends, stop_item}

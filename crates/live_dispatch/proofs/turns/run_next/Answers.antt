@@ -18,15 +18,27 @@ pub returns-in-Ok-Some-clause-went : goal.returns-in-Ok-Some-clause-went
 returns-in-Ok-Some-clause-went g c = λ start stands.
     c.run_one.ensures.went start
     (next-stands c.args.solver.now.settings.now c.args.solver.now.network.now start _
-    (moment c.args.run.book c.args.run.round (g.L.RowSource.to_come c.next_row.new.rows) (g.L.RowSource.faults c.next_row.new.rows) (outputs_seen g.K.Sink.written g.K.Sink.faults g.N.Notifier.told g.N.Notifier.faults g.N.Notifier.steady c.args.run.outputs.sink c.args.run.outputs.notifiers.items))
-    c.args.held c.in-Ok-Some.row stands (subst (GivesNext c.args.held (g.L.RowSource.to_come c.args.run.rows) (g.L.RowSource.to_come c.next_row.new.rows)) c.in-Ok-Some.field-0-is c.in-Ok-Some.ensures.row) refl refl refl refl c.next_row.ensures.never_falls)
+    (moment c.args.run.book c.args.run.round (g.L.RowSource.to_come c.next_row.new.rows) (g.L.RowSource.faults c.next_row.new.rows)
+    (outputs_seen g.K.Sink.written g.K.Sink.faults g.N.Notifier.told g.N.Notifier.faults g.N.Notifier.steady c.args.run.outputs.sink
+    c.args.run.outputs.notifiers.items))
+    c.args.held c.in-Ok-Some.row stands (subst (GivesNext c.args.held (g.L.RowSource.to_come c.args.run.rows) (g.L.RowSource.to_come c.next_row.new.rows))
+    c.in-Ok-Some.field-0-is c.in-Ok-Some.ensures.row) refl refl refl refl c.next_row.ensures.never_falls)
 
 pub returns-in-Ok-None-clause-went : goal.returns-in-Ok-None-clause-went
 returns-in-Ok-None-clause-went g c = λ start stands.
     let all = none-stands c.args.solver.now.settings.now c.args.solver.now.network.now start _
-    (moment c.args.run.book c.args.run.round (g.L.RowSource.to_come c.next_row.new.rows) (g.L.RowSource.faults c.next_row.new.rows) (outputs_seen g.K.Sink.written g.K.Sink.faults g.N.Notifier.told g.N.Notifier.faults g.N.Notifier.steady c.args.run.outputs.sink c.args.run.outputs.notifiers.items))
-    c.args.held stands (subst (GivesNext c.args.held (g.L.RowSource.to_come c.args.run.rows) (g.L.RowSource.to_come c.next_row.new.rows)) c.in-Ok-None.field-0-is c.in-Ok-None.ensures.row) refl refl refl refl c.next_row.ensures.never_falls in
-    all-ended c.args.solver.now.settings.now c.args.solver.now.network.now start _ (AreRows start.rows) all all.are (g.L.RowSource.faults c.end.result.rows) _ _ c.end.result.ended (λ i. record { sink = (outputs_seen g.K.Sink.written g.K.Sink.faults g.N.Notifier.told g.N.Notifier.faults g.N.Notifier.steady c.end.result.outputs.sink c.end.result.outputs.notifiers.items).sink; notifiers = notifiers_seen g.N.Notifier.told g.N.Notifier.faults g.N.Notifier.steady (c.end.ensures.notifiers i) }) c.end.ensures.wrote
+    (moment c.args.run.book c.args.run.round (g.L.RowSource.to_come c.next_row.new.rows) (g.L.RowSource.faults c.next_row.new.rows)
+    (outputs_seen g.K.Sink.written g.K.Sink.faults g.N.Notifier.told g.N.Notifier.faults g.N.Notifier.steady c.args.run.outputs.sink
+    c.args.run.outputs.notifiers.items))
+    c.args.held stands (subst (GivesNext c.args.held (g.L.RowSource.to_come c.args.run.rows) (g.L.RowSource.to_come c.next_row.new.rows))
+    c.in-Ok-None.field-0-is c.in-Ok-None.ensures.row) refl refl refl refl c.next_row.ensures.never_falls in
+    all-ended c.args.solver.now.settings.now c.args.solver.now.network.now start _ (AreRows start.rows) all all.are (g.L.RowSource.faults c.end.result.rows) _ _
+    c.end.result.ended (λ i. record {
+      sink = (outputs_seen g.K.Sink.written g.K.Sink.faults g.N.Notifier.told g.N.Notifier.faults g.N.Notifier.steady
+          c.end.result.outputs.sink c.end.result.outputs.notifiers.items).sink;
+      notifiers = notifiers_seen g.N.Notifier.told g.N.Notifier.faults
+          g.N.Notifier.steady (c.end.ensures.notifiers i);
+    }) c.end.ensures.wrote
 
 pub returns-in-Err-clause-went : goal.returns-in-Err-clause-went
 returns-in-Err-clause-went g c = λ start stands.

@@ -14,17 +14,24 @@ run_batch-answer-requires-clause-nodes g c κs within =
 pub returns-in-Ok-None-clause-went : goal.returns-in-Ok-None-clause-went
 returns-in-Ok-None-clause-went g c = λ start stands.
     row-stands c.args.solver.now.settings.now c.args.solver.now.network.now start _ c.args.row stands c.requires.behind.0
-    (moment c.run_row.new.book (Some c.args.row.round) (g.L.RowSource.to_come c.args.run.rows) (g.L.RowSource.faults c.args.run.rows) (outputs_seen g.K.Sink.written g.K.Sink.faults g.N.Notifier.told g.N.Notifier.faults g.N.Notifier.steady c.run_row.new.sink c.args.run.outputs.notifiers.items))
+    (moment c.run_row.new.book (Some c.args.row.round) (g.L.RowSource.to_come c.args.run.rows) (g.L.RowSource.faults c.args.run.rows)
+    (outputs_seen g.K.Sink.written g.K.Sink.faults g.N.Notifier.told g.N.Notifier.faults g.N.Notifier.steady c.run_row.new.sink
+    c.args.run.outputs.notifiers.items))
     (subst (λ o. HasTaken c.args.run.book c.args.row.lane c.args.row.command o c.run_row.new.book) c.in-Ok-None.field-0-is c.in-Ok-None.ensures.taken) refl
-    (subst (λ p. Appends (g.K.Sink.written c.args.run.outputs.sink) (g.K.Sink.written c.run_row.new.sink) (row_text p c.args.run.round c.args.run.book c.args.row)) c.requires.behind.2 c.in-Ok-None.ensures.wrote.bytes)
+    (subst (λ p. Appends (g.K.Sink.written c.args.run.outputs.sink) (g.K.Sink.written c.run_row.new.sink)
+    (row_text p c.args.run.round c.args.run.book c.args.row)) c.requires.behind.2 c.in-Ok-None.ensures.wrote.bytes)
     refl refl c.in-Ok-None.ensures.wrote.never_falls refl
 
 pub returns-in-Ok-Some-clause-went : goal.returns-in-Ok-Some-clause-went
 returns-in-Ok-Some-clause-went g c = λ start stands.
     c.run_batch-answer.ensures.went start c.args.row refl
-    (row-opens c.args.solver.now.settings.now c.args.solver.now.network.now start _ c.args.row stands c.requires.behind.0 c.args.run.proof c.requires.behind.2 c.in-Ok-Some.snapshot
-    (moment c.run_row.new.book c.args.run.round (g.L.RowSource.to_come c.args.run.rows) (g.L.RowSource.faults c.args.run.rows) (outputs_seen g.K.Sink.written g.K.Sink.faults g.N.Notifier.told g.N.Notifier.faults g.N.Notifier.steady c.run_row.new.sink c.args.run.outputs.notifiers.items)) _ _
-    (subst (λ o. HasTaken c.args.run.book c.args.row.lane c.args.row.command o c.run_row.new.book) c.in-Ok-Some.field-0-is c.in-Ok-Some.ensures.taken) c.in-Ok-Some.ensures.wrote refl refl refl)
+    (row-opens c.args.solver.now.settings.now c.args.solver.now.network.now start _ c.args.row stands c.requires.behind.0 c.args.run.proof c.requires.behind.2
+    c.in-Ok-Some.snapshot
+    (moment c.run_row.new.book c.args.run.round (g.L.RowSource.to_come c.args.run.rows) (g.L.RowSource.faults c.args.run.rows)
+    (outputs_seen g.K.Sink.written g.K.Sink.faults g.N.Notifier.told g.N.Notifier.faults g.N.Notifier.steady c.run_row.new.sink
+    c.args.run.outputs.notifiers.items)) _ _
+    (subst (λ o. HasTaken c.args.run.book c.args.row.lane c.args.row.command o c.run_row.new.book) c.in-Ok-Some.field-0-is c.in-Ok-Some.ensures.taken)
+    c.in-Ok-Some.ensures.wrote refl refl refl)
 
 pub returns-in-Err-clause-went : goal.returns-in-Err-clause-went
 returns-in-Err-clause-went g c = λ start stands.

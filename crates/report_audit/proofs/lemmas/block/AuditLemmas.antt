@@ -1,6 +1,32 @@
 -- A block as which one outcome is judged, and good outcomes that print it.
 use Rattle.std.proofs.Common.{rules, ◌≡◌, ◌≢◌, ℕ, ◌<◌, ◌≤◌, min, true, List, ◌++◌, length, map, ⊎_elim, refl, sym, ap, ◌∙◌, subst, arith}
-use Rattle.report_audit.proofs.Common.{cases_lt, length-map, point_place, Batch, IsKept, IsGoodOutcome, block_lines, Meets, IsVerdictOf, Point, lines_of, BlockLine, Outcome, Settings, Roads, BeginsWithGood, BeginsWithWrong, MeetsAs, Refuses, judged_outcome, CanBeTold, BlockLists, told_by, HoldUpTo, verdict_place}
+use Rattle.report_audit.proofs.Common.{
+  cases_lt,
+  length-map,
+  point_place,
+  Batch,
+  IsKept,
+  IsGoodOutcome,
+  block_lines,
+  Meets,
+  IsVerdictOf,
+  Point,
+  lines_of,
+  BlockLine,
+  Outcome,
+  Settings,
+  Roads,
+  BeginsWithGood,
+  BeginsWithWrong,
+  MeetsAs,
+  Refuses,
+  judged_outcome,
+  CanBeTold,
+  BlockLists,
+  told_by,
+  HoldUpTo,
+  verdict_place,
+}
 use Rattle.std.specs.List.{All}
 use Rattle.dispatch_report.specs.Lines.{lines_text}
 use Rattle.report_audit.specs.declared.points.verdict.Verdict.{Verdict}
@@ -48,7 +74,8 @@ first_wrong settings roads batch t verdict untold first number points told at =
     let can : Point → Type 0 = λ q. CanBeTold q t in
     holds_verdict (MeetsAs settings roads batch t) first
     (subst (HoldUpTo (MeetsAs settings roads batch t)) (sym at)
-    (hold_both (t.batch ≡ batch.number) meets can (verdict_place verdict) (verdict_place untold) number (verdict_holds meets verdict points) (verdict_holds can untold told)))
+    (hold_both (t.batch ≡ batch.number) meets can (verdict_place verdict) (verdict_place untold) number (verdict_holds meets verdict points)
+    (verdict_holds can untold told)))
 
 good_place : (verdict : Verdict) → 9 ≤ verdict_place verdict → verdict ≡ Good
 good_place Good high = refl
@@ -58,7 +85,8 @@ pub is_good : (verdict untold : Verdict) → 9 ≡ min (verdict_place verdict) (
 is_good verdict untold at = good_place verdict (omega (arith, at))
 
 -- another number than the batch's fails at once
-pub fails_at_once : (settings : Settings) (roads : Roads) (batch : Batch) (t : BlockLists) → t.batch ≢ batch.number → IsVerdictOf (MeetsAs settings roads batch t) (Fails point.Answer)
+pub fails_at_once : (settings : Settings) (roads : Roads) (batch : Batch) (t : BlockLists) → t.batch ≢ batch.number →
+    IsVerdictOf (MeetsAs settings roads batch t) (Fails point.Answer)
 fails_at_once settings roads batch t other = (λ q less. absurd (omega arith), λ holds. other holds.0)
 
 -- the outcome as which the block is judged is the only good one whose block stands there
@@ -128,7 +156,8 @@ fault_no_good settings roads batch text found refusal fails is some other behind
     (λ (e : found ≡ fault.OutOfMemory). some (is ∙ ap refusal_for e)) fails
 
 -- where a point fails, there is no good outcome
-pub wrong_no_good : (settings : Settings) (roads : Roads) (batch : Batch) → IsKept batch → (text : List ℕ) (p : Point) → BeginsWithWrong settings roads batch text p
+pub wrong_no_good : (settings : Settings) (roads : Roads) (batch : Batch) → IsKept batch → (text : List ℕ) (p : Point) →
+    BeginsWithWrong settings roads batch text p
     → (other : Outcome) (behind : List ℕ) → BeginsWithGood settings roads batch text other behind → ⊥
 wrong_no_good settings roads batch kept text p wrong other behind good =
     wrong.fails.1 ((good_is_judged settings roads batch kept text wrong.lines wrong.rest wrong.block other behind good).meets p)
@@ -138,8 +167,10 @@ pub good_not_refused : (settings : Settings) (roads : Roads) (batch : Batch) →
     BeginsWithGood settings roads batch text outcome rest
     → (refusal : BlockRefusal) → refusal ≢ OutOfMemory → Refuses settings roads batch text refusal → ⊥
 good_not_refused settings roads batch kept text outcome rest good OutOfMemory some is = some refl
-good_not_refused settings roads batch kept text outcome rest good (Cut n) some is = fault_no_good settings roads batch text (fault.Cut n) (Cut n) is refl some outcome rest good
-good_not_refused settings roads batch kept text outcome rest good (Form n) some is = fault_no_good settings roads batch text (fault.Form n) (Form n) is refl some outcome rest good
+good_not_refused settings roads batch kept text outcome rest good (Cut n) some is = fault_no_good settings roads batch text (fault.Cut n) (Cut n) is refl some
+    outcome rest good
+good_not_refused settings roads batch kept text outcome rest good (Form n) some is = fault_no_good settings roads batch text (fault.Form n) (Form n) is refl
+    some outcome rest good
 good_not_refused settings roads batch kept text outcome rest good (Wrong p) some wrong = wrong_no_good settings roads batch kept text p wrong outcome rest good
 
 -- a text is refused for one cause
@@ -154,7 +185,8 @@ module _ (settings : Settings) (roads : Roads) (batch : Batch) (text : List ℕ)
       let n : ℕ = point_place p in let m : ℕ = point_place q in
       same_place p q
       (⊎_elim (λ (less : n < m). absurd (not_before p q one two less))
-      (λ (high : m ≤ n). ⊎_elim (λ (more : m < n). absurd (not_before q p two one more)) (λ (low : n ≤ m). let e : n ≡ m = omega (arith, high, low) in e) (cases_lt m n)) (cases_lt n m))
+      (λ (high : m ≤ n). ⊎_elim (λ (more : m < n). absurd (not_before q p two one more)) (λ (low : n ≤ m). let e : n ≡ m = omega (arith, high, low) in e)
+      (cases_lt m n)) (cases_lt n m))
 
   one_of_fault : (f : BlockFault) → f ≢ fault.OutOfMemory → BlockFails text f → (s : BlockRefusal) → s ≢ OutOfMemory → Refuses settings roads batch text s →
       refusal_for f ≡ s

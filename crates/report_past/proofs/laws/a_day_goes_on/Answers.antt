@@ -17,6 +17,7 @@ returns-clause-text c settings roads s position rows more told made are later ru
     let new = journals_text settings.proof (rows_rounds more) made in
     let end = position_after_run (position_after_run position told) made in
     ap (λ rs. journals_text settings.proof rs (told ++ made) ++ end_text (position_after_run position (told ++ made))) (later_rounds rows more are later)
-    ∙ ap (λ t. t ++ end_text (position_after_run position (told ++ made))) (texts-append settings roads settings.proof s position (rows_rounds rows) (rows_rounds more) told made run)
+    ∙ ap (λ t. t ++ end_text (position_after_run position (told ++ made))) (texts-append settings roads settings.proof s position (rows_rounds rows)
+    (rows_rounds more) told made run)
     ∙ ap (λ p. (old ++ new) ++ end_text p) (position-append position told made)
     ∙ append_assoc old new (end_text end)

@@ -10,11 +10,18 @@ pub returns-in-Ok : goal.returns-in-Ok
 returns-in-Ok g c =
     let ends = c.live_in-answer.ensures in
     answers-live _ _
-    (ExplainsLive.ended _ (record { settings = c.in-Ok.inputs.settings; roads = c.in-Ok.inputs.network; vehicles = c.in-Ok.inputs.fleet }, c.in-Ok.ensures.got _ _, ends))
+    (ExplainsLive.ended _ (
+      record { settings = c.in-Ok.inputs.settings; roads = c.in-Ok.inputs.network; vehicles = c.in-Ok.inputs.fleet },
+      c.in-Ok.ensures.got _
+          _,
+      ends,
+    ))
     (inl c.in-Ok.ensures.limited.0, inl c.in-Ok.ensures.limited.1)
     (ends-hide _ _ c.live_in-answer.result.status ends)
 
 pub returns-in-Err : goal.returns-in-Err
 returns-in-Err g c =
     let kept = c.ended.ensures in
-    rw (kept.0, kept.1, kept.2, kept.3) (answers-live _ _ (c.in-Err.ensures.got _ _ (record { script = refl; silent = record { out = refl; notifiers = refl } })) c.in-Err.ensures.limited c.in-Err.ensures.no_memory)
+    rw (kept.0, kept.1, kept.2, kept.3) (answers-live _ _
+    (c.in-Err.ensures.got _ _ (record { script = refl; silent = record { out = refl; notifiers = refl } })) c.in-Err.ensures.limited
+    c.in-Err.ensures.no_memory)

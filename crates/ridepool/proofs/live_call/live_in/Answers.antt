@@ -11,13 +11,15 @@ start_live-requires-clause-named g c κs within = c.requires.named
 
 pub dispatch-dispatched-requires-clause-ready : goal.dispatch-dispatched-requires-clause-ready
 dispatch-dispatched-requires-clause-ready g c κs within =
-    ready-live (record { settings = c.args.inputs.now.settings; roads = c.args.inputs.now.network; vehicles = c.args.inputs.now.fleet }) c.in-Ok-start_live.book c.in-Ok-start_live.ensures.started.0
+    ready-live (record { settings = c.args.inputs.now.settings; roads = c.args.inputs.now.network; vehicles = c.args.inputs.now.fleet }) c.in-Ok-start_live.book
+    c.in-Ok-start_live.ensures.started.0
 
 pub dispatch-dispatched-requires-clause-empty : goal.dispatch-dispatched-requires-clause-empty
 dispatch-dispatched-requires-clause-empty g c κs within = ap (λ (b : BookView). b.entries) c.in-Ok-start_live.ensures.started.0
 
 pub dispatch-dispatched-requires-clause-small : goal.dispatch-dispatched-requires-clause-small
-dispatch-dispatched-requires-clause-small g c κs within = let first : c.in-Ok-start_live.book.first ≡ 0 = ap (λ (b : BookView). b.first) c.in-Ok-start_live.ensures.started.0 in omega (arith, first)
+dispatch-dispatched-requires-clause-small g c κs within = let first : c.in-Ok-start_live.book.first ≡ 0 =
+    ap (λ (b : BookView). b.first) c.in-Ok-start_live.ensures.started.0 in omega (arith, first)
 
 pub dispatch-dispatched-requires-clause-first : goal.dispatch-dispatched-requires-clause-first
 dispatch-dispatched-requires-clause-first g c κs within = c.behind-rows.ensures.last
@@ -30,11 +32,16 @@ returns-in-Ok-start_live g c =
     let kept = c.ended-in-Ok-start_live.ensures in
     let behind : SinkView = record { written = g.K.Sink.written c.start_live.new.out; faults = g.K.Sink.faults c.start_live.new.out } in
     rw (kept.0, kept.1, kept.2, kept.3)
-    (rows-ended _ (g.S.Source.left c.args.session.script) c.start_live.new.lines.to_come c.behind-rows.result.lines.to_come c.in-Ok-start_live.version c.behind-rows.result.version c.behind-rows.result.least
-    c.in-Ok-start_live.book _ behind _ (g.S.Source.faults c.args.session.script) c.start_live.new.lines.faults c.behind-rows.result.lines.faults (g.S.Source.faults c.into_source.result) _ _ c.dispatch-dispatched.result.ended
-    c.end_status.result c.end_status.ensures c.in-Ok-start_live.ensures.started.0 (rw c.over-lines.ensures.to_come at c.in-Ok-start_live.ensures.started.1) (ap (λ (s : Streamed). s.to_come) c.behind-rows.ensures.lines)
-    c.behind-rows.ensures.version c.behind-rows.ensures.least c.in-Ok-start_live.ensures.started.2 c.start_live.ensures.never_falls (rw c.over-lines.ensures.faults at c.start_live.ensures.reads_never_fall)
-    c.dispatch-dispatched.ensures.run c.dispatch-dispatched.ensures.write_fault (λ is. omega (arith, c.dispatch-dispatched.ensures.read_fault is, c.into_source.ensures)) (ap (λ (s : Streamed). s.faults) c.behind-rows.ensures.lines))
+    (rows-ended _ (g.S.Source.left c.args.session.script) c.start_live.new.lines.to_come c.behind-rows.result.lines.to_come c.in-Ok-start_live.version
+    c.behind-rows.result.version c.behind-rows.result.least
+    c.in-Ok-start_live.book _ behind _ (g.S.Source.faults c.args.session.script) c.start_live.new.lines.faults c.behind-rows.result.lines.faults
+    (g.S.Source.faults c.into_source.result) _ _ c.dispatch-dispatched.result.ended
+    c.end_status.result c.end_status.ensures c.in-Ok-start_live.ensures.started.0 (rw c.over-lines.ensures.to_come at c.in-Ok-start_live.ensures.started.1)
+    (ap (λ (s : Streamed). s.to_come) c.behind-rows.ensures.lines)
+    c.behind-rows.ensures.version c.behind-rows.ensures.least c.in-Ok-start_live.ensures.started.2 c.start_live.ensures.never_falls
+    (rw c.over-lines.ensures.faults at c.start_live.ensures.reads_never_fall)
+    c.dispatch-dispatched.ensures.run c.dispatch-dispatched.ensures.write_fault (λ is. omega
+    (arith, c.dispatch-dispatched.ensures.read_fault is, c.into_source.ensures)) (ap (λ (s : Streamed). s.faults) c.behind-rows.ensures.lines))
 
 pub returns-in-Err : goal.returns-in-Err
 returns-in-Err g c =

@@ -17,14 +17,20 @@ returns-in-Err-network_from-clause-got g c script rest silent =
     network-stops _ silent c.in-Ok.settings c.in-Err-network_from.status c.in-Ok.ensures refl c.in-Err-network_from.ensures
 
 pub returns-in-Ok-fleet_from-clause-got : goal.returns-in-Ok-fleet_from-clause-got
-returns-in-Ok-fleet_from-clause-got g c script rest = record { words = c.in-Ok.ensures; network = c.in-Ok-network_from.ensures; fleet = c.in-Ok-fleet_from.ensures.read }
+returns-in-Ok-fleet_from-clause-got g c script rest = record {
+  words = c.in-Ok.ensures;
+  network = c.in-Ok-network_from.ensures;
+  fleet =
+      c.in-Ok-fleet_from.ensures.read;
+}
 
 pub returns-in-Ok-fleet_from-clause-named : goal.returns-in-Ok-fleet_from-clause-named
 returns-in-Ok-fleet_from-clause-named g c = c.in-Ok-fleet_from.ensures.named
 
 pub returns-in-Err-fleet_from-clause-got : goal.returns-in-Err-fleet_from-clause-got
 returns-in-Err-fleet_from-clause-got g c script rest silent =
-    fleet-stops _ silent c.in-Ok.settings c.in-Ok-network_from.network c.in-Err-fleet_from.status c.in-Ok.ensures c.in-Ok-network_from.ensures c.in-Err-fleet_from.ensures.read
+    fleet-stops _ silent c.in-Ok.settings c.in-Ok-network_from.network c.in-Err-fleet_from.status c.in-Ok.ensures c.in-Ok-network_from.ensures
+    c.in-Err-fleet_from.ensures.read
 
 pub returns-in-Err-clause-limited : goal.returns-in-Err-clause-limited
 returns-in-Err-clause-limited g c = (

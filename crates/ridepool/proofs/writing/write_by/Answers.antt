@@ -12,7 +12,13 @@ opened_book-requires g c = c.requires.named
 
 pub drive_day-driven-requires-clause-new : goal.drive_day-driven-requires-clause-new
 drive_day-driven-requires-clause-new g c κs within =
-    new_book (record { settings = c.args.solver.now.settings.now; roads = c.args.solver.now.network.now; vehicles = c.args.fleet.now; rounds = c.args.script.now }) c.in-Ok.book c.keeps.ensures c.in-Ok.ensures
+    new_book (record {
+      settings = c.args.solver.now.settings.now;
+      roads = c.args.solver.now.network.now;
+      vehicles = c.args.fleet.now;
+      rounds =
+          c.args.script.now;
+    }) c.in-Ok.book c.keeps.ensures c.in-Ok.ensures
 
 pub drive_day-driven-requires-clause-day : goal.drive_day-driven-requires-clause-day
 drive_day-driven-requires-clause-day g c κs within = subst (λ m. IsDayFor m c.args.script.now) c.in-Drive.is c.requires.day

@@ -12,5 +12,6 @@ returns-clause-run g c =
     let rounds = c.args.day.now in
     if_ok_map c.driven_day.result _ _ c.driven_day.ensures.run (λ run counted.
     let keeps : EntriesKeep settings roads s (entries_of counted.made) =
-    new_book_keeps settings roads c.args.book rounds counted.made c.requires.new c.keeps.ensures c.keeps-3.ensures c.keeps-2.ensures c.requires.day counted.driven in
+    new_book_keeps settings roads c.args.book rounds counted.made c.requires.new c.keeps.ensures c.keeps-3.ensures c.keeps-2.ensures c.requires.day
+    counted.driven in
     (counted.made, counted.taken, day_in_time settings roads s rounds counted.made run (record { driven = counted.driven; keeps = keeps }) counted.counts))

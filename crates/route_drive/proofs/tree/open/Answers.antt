@@ -13,26 +13,30 @@ use Rattle.route_drive.proofs.tree.open.Goals as goal
 pub offset_bounds-times-hop : goal.offset_bounds-times-hop
 offset_bounds-times-hop c =
     let inside : c.loop-hop.hop-index < length c.arcs_from-hop-items.result.now = omega arith in
-    let w = hop_among c.args.network.now c.arcs_from-hop-items.result.now c.index.result.now.node c.loop-hop.hop-index (record { to = 0; seconds = 0 }) c.keeps.ensures c.arcs_from-hop-items.ensures inside in
+    let w = hop_among c.args.network.now c.arcs_from-hop-items.result.now c.index.result.now.node c.loop-hop.hop-index (record { to = 0; seconds = 0 })
+    c.keeps.ensures c.arcs_from-hop-items.ensures inside in
     let few = c.keeps.ensures.few_nodes in
     search rules
 
 pub bounds-times-hop : goal.bounds-times-hop
 bounds-times-hop c =
     let inside : c.loop-hop.hop-index < length c.arcs_from-hop-items.result.now = omega arith in
-    let w = hop_among c.args.network.now c.arcs_from-hop-items.result.now c.index.result.now.node c.loop-hop.hop-index (record { to = 0; seconds = 0 }) c.keeps.ensures c.arcs_from-hop-items.ensures inside in
+    let w = hop_among c.args.network.now c.arcs_from-hop-items.result.now c.index.result.now.node c.loop-hop.hop-index (record { to = 0; seconds = 0 })
+    c.keeps.ensures c.arcs_from-hop-items.ensures inside in
     omega (arith, w, c.requires.size)
 
 pub index-requires-then-here-hop : goal.index-requires-then-here-hop
 index-requires-then-here-hop c =
     let inside : c.loop-hop.hop-index < length c.arcs_from-hop-items.result.now = omega arith in
-    let w = hop_among c.args.network.now c.arcs_from-hop-items.result.now c.index.result.now.node c.loop-hop.hop-index (record { to = 0; seconds = 0 }) c.keeps.ensures c.arcs_from-hop-items.ensures inside in
+    let w = hop_among c.args.network.now c.arcs_from-hop-items.result.now c.index.result.now.node c.loop-hop.hop-index (record { to = 0; seconds = 0 })
+    c.keeps.ensures c.arcs_from-hop-items.ensures inside in
     omega (arith, w, c.requires.size, c.loop-hop.invariant.tree.marks, c.loop-hop.tree.seen.ok.0)
 
 pub mark-requires : goal.mark-requires
 mark-requires c =
     let inside : c.loop-hop.hop-index < length c.arcs_from-hop-items.result.now = omega arith in
-    let w = hop_among c.args.network.now c.arcs_from-hop-items.result.now c.index.result.now.node c.loop-hop.hop-index (record { to = 0; seconds = 0 }) c.keeps.ensures c.arcs_from-hop-items.ensures inside in
+    let w = hop_among c.args.network.now c.arcs_from-hop-items.result.now c.index.result.now.node c.loop-hop.hop-index (record { to = 0; seconds = 0 })
+    c.keeps.ensures c.arcs_from-hop-items.ensures inside in
     omega (arith, w, c.requires.size, c.loop-hop.invariant.tree.marks)
 
 pub loop-hop-preserved : goal.loop-hop-preserved

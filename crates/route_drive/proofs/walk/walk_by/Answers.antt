@@ -11,7 +11,8 @@ pub shortest_tree-requires-clause-near : goal.shortest_tree-requires-clause-near
 shortest_tree-requires-clause-near c =
     let roads = c.args.network.now in
     let kept = c.keeps.ensures in
-    near_unless_never roads.arcs _ c.args.start c.args.goal c.args.times.now kept.arcs kept.few_nodes c.requires.start c.requires.goal c.requires.times (λ e. c.if-time.false e)
+    near_unless_never roads.arcs _ c.args.start c.args.goal c.args.times.now kept.arcs kept.few_nodes c.requires.start c.requires.goal c.requires.times
+    (λ e. c.if-time.false e)
 
 pub unwrap-number-requires : goal.unwrap-number-requires
 unwrap-number-requires c =

@@ -13,10 +13,12 @@ invariant_of-self g c =
       book = c.self.inside.book;
       proof = c.self.inside.proof;
       opened = g.J.Opening.opened;
-      now = outputs_seen g.K.Sink.written g.K.Sink.faults g.N.Notifier.told g.N.Notifier.faults g.N.Notifier.steady c.self.inside.outputs.sink c.self.inside.outputs.notifiers.items;
+      now = outputs_seen g.K.Sink.written g.K.Sink.faults g.N.Notifier.told g.N.Notifier.faults g.N.Notifier.steady c.self.inside.outputs.sink
+          c.self.inside.outputs.notifiers.items;
       fault = c.self.inside.fault;
     } in
-    let now : OutputsView = outputs_seen g.K.Sink.written g.K.Sink.faults g.N.Notifier.told g.N.Notifier.faults g.N.Notifier.steady c.write_last-self-inside.new.sink c.write_last-self-inside.new.notifiers.items in
+    let now : OutputsView = outputs_seen g.K.Sink.written g.K.Sink.faults g.N.Notifier.told g.N.Notifier.faults g.N.Notifier.steady
+    c.write_last-self-inside.new.sink c.write_last-self-inside.new.notifiers.items in
     let e : Entry = record { lane = c.args.lane; command = c.args.command; reply = c.in-Ok-apply.reply } in
     let applied : IsApplied old.book c.args.lane c.args.command c.in-Ok-apply.reply c.apply.new.self = c.in-Ok-apply.ensures.applied in
     let whole : old.fault ≡ None = none_of old.fault (sym c.is_some.ensures ∙ c.if-is_some.false) in
@@ -29,11 +31,14 @@ invariant_of-self g c =
 
 pub returns-in-Ok-apply-clause-entered : goal.returns-in-Ok-apply-clause-entered
 returns-in-Ok-apply-clause-entered g c =
-    let now : OutputsView = outputs_seen g.K.Sink.written g.K.Sink.faults g.N.Notifier.told g.N.Notifier.faults g.N.Notifier.steady c.write_last-self-inside.new.sink c.write_last-self-inside.new.notifiers.items in
+    let now : OutputsView = outputs_seen g.K.Sink.written g.K.Sink.faults g.N.Notifier.told g.N.Notifier.faults g.N.Notifier.steady
+    c.write_last-self-inside.new.sink c.write_last-self-inside.new.notifiers.items in
     let opened : OutputsView = g.J.Opening.opened in
     let new : DeskView = record { book = c.apply.new.self; proof = c.self.inside.proof; opened = opened; now = now; fault = c.write_last-self-inside.result } in
-    let was : OutputsView = outputs_seen g.K.Sink.written g.K.Sink.faults g.N.Notifier.told g.N.Notifier.faults g.N.Notifier.steady c.self.inside.outputs.sink c.self.inside.outputs.notifiers.items in
-    subst (λ (old : DeskView). HasEntered old c.args.lane c.args.command (record { reply = c.in-Ok-apply.reply; snapshot = c.in-Ok.snapshot }) new) c.self.view_is
+    let was : OutputsView = outputs_seen g.K.Sink.written g.K.Sink.faults g.N.Notifier.told g.N.Notifier.faults g.N.Notifier.steady c.self.inside.outputs.sink
+    c.self.inside.outputs.notifiers.items in
+    subst (λ (old : DeskView). HasEntered old c.args.lane c.args.command (record { reply = c.in-Ok-apply.reply; snapshot = c.in-Ok.snapshot }) new)
+    c.self.view_is
     (desk-replied (record { book = c.self.inside.book; proof = c.self.inside.proof; opened = opened; now = was; fault = c.self.inside.fault })
     new c.args.lane c.args.command c.in-Ok-apply.reply c.in-Ok.snapshot c.self.invariant.book c.entries.ensures.kept c.in-Ok-apply.ensures.applied
     c.in-Ok.ensures.sealed refl refl)
@@ -53,7 +58,8 @@ returns-in-Ok-clause-refused g c =
       book = c.apply.new.self;
       proof = c.self.inside.proof;
       opened = g.J.Opening.opened;
-      now = outputs_seen g.K.Sink.written g.K.Sink.faults g.N.Notifier.told g.N.Notifier.faults g.N.Notifier.steady c.self.inside.outputs.sink c.self.inside.outputs.notifiers.items;
+      now = outputs_seen g.K.Sink.written g.K.Sink.faults g.N.Notifier.told g.N.Notifier.faults g.N.Notifier.steady c.self.inside.outputs.sink
+          c.self.inside.outputs.notifiers.items;
       fault = c.self.inside.fault;
     } in
     subst (λ (old : DeskView). IsSameDesk old new) c.self.view_is (record {

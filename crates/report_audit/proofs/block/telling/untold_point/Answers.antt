@@ -6,13 +6,15 @@ use Rattle.report_audit.proofs.block.telling.untold_point.Goals as goal
 
 pub returns-then-not-are_short_rows : goal.returns-then-not-are_short_rows
 returns-then-not-are_short_rows c =
-    let before = told_below (told_in c.args.told.now) 1 (λ h. absurd (omega (arith, h))) (λ h. absurd (omega (arith, h))) (λ h. absurd (omega (arith, h))) (λ h. absurd (omega (arith, h))) in
+    let before = told_below (told_in c.args.told.now) 1 (λ h. absurd (omega (arith, h))) (λ h. absurd (omega (arith, h))) (λ h. absurd (omega (arith, h)))
+    (λ h. absurd (omega (arith, h))) in
     (before, λ all. both_ways _ c.if-not-are_short_rows.true (c.are_short_rows.ensures.1 (rw c.deref.ensures.value all)))
 
 pub returns-then-not-are_short_lates : goal.returns-then-not-are_short_lates
 returns-then-not-are_short_lates c =
     let rows = rw c.deref.ensures.value at (c.are_short_rows.ensures.0 c.if-not-are_short_rows.false) in
-    let before = told_below (told_in c.args.told.now) 2 (λ h. rows) (λ h. absurd (omega (arith, h))) (λ h. absurd (omega (arith, h))) (λ h. absurd (omega (arith, h))) in
+    let before = told_below (told_in c.args.told.now) 2 (λ h. rows) (λ h. absurd (omega (arith, h))) (λ h. absurd (omega (arith, h)))
+    (λ h. absurd (omega (arith, h))) in
     (before, λ all. both_ways _ c.if-not-are_short_lates.true (c.are_short_lates.ensures.1 (rw c.deref-2.ensures.value all)))
 
 pub returns-then-not-are_short_trips : goal.returns-then-not-are_short_trips
