@@ -1,12 +1,12 @@
 -- A block that can be told is that of the outcome as which it is judged.
-use Rattle.std.proofs.Common.{◌≡◌, ℕ, ◌≤◌, true, List, ◌++◌, length, map, sym, ap, ◌∙◌, arith}
+use Rattle.std.proofs.Common.{◌≡◌, ℕ, true, List, ◌++◌, length, map, sym, ap, ◌∙◌}
 use Rattle.report_audit.proofs.Common.{
   Batch,
   BlockLine,
   CanBeTold,
-  HoldUpTo,
   IsBlock,
   Outcome,
+  Point,
   block_line_text,
   block_lines,
   judged_outcome,
@@ -17,16 +17,13 @@ use Rattle.report_audit.proofs.Common.{
 }
 use Rattle.report_audit.proofs.block.NumberedLemmas.{vehicle_ids}
 use Rattle.report_audit.proofs.block.OutcomeLemmas.{lines_are}
-use Rattle.report_audit.proofs.lemmas.points.VerdictLemmas.{last_place}
 
 module _ (batch : Batch) (text : List ℕ) (lines : List BlockLine) (rest : List ℕ) (block : IsBlock text lines rest)
     (number : (told_by lines).batch ≡ batch.number)
-    (place : ℕ) (holds : HoldUpTo (λ q. CanBeTold q (told_by lines)) place) (high : 9 ≤ place) (outcome : Outcome)
-    (is : outcome ≡ judged_outcome (vehicle_ids batch) (told_by lines)) where
+    (can : (q : Point) → CanBeTold q (told_by lines)) (outcome : Outcome) (is : outcome ≡ judged_outcome (vehicle_ids batch) (told_by lines)) where
   printed_is : lines ≡ lines_of true batch.number outcome
   printed_is =
-      lines_are (vehicle_ids batch) lines block.begins.order block.ended (λ q. holds.before q (let low = last_place q in omega (arith, low, high)))
-      ∙ (λ i. lines_of true (number i) (sym is i))
+      lines_are (vehicle_ids batch) lines block.begins.order block.ended can ∙ (λ i. lines_of true (number i) (sym is i))
 
   pub told_text : text ≡ lines_text (block_lines true batch.number outcome) ++ rest
   told_text = block.begins.whole ∙ ap (λ (ls : List BlockLine). lines_text (map block_line_text ls) ++ rest) printed_is
