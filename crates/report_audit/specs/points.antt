@@ -1,1 +1,2 @@
+pub mod OnePlan
 pub mod Verdict

@@ -50,7 +50,8 @@
 //! `read_head`: `read`, `only`, `none`, `fault`; `read_block`; `read_next`; the laws `a_line_says_one_thing`,
 //! `a_text_begins_with_one_block` and `a_text_has_one_block_fault`; of outcomes `judge`: `points`, `good`;
 //! `shows_bound`, `is_close`, `is_fair` and `is_best_near`: of each its one clause; `a_batch_settles_in_one_way`;
-//! `a_batch_has_one_graph_of_each_kind`: `vehicles`, `riders`, `trips`; `a_batch_has_rows_or_too_many`.
+//! `a_batch_has_one_graph_of_each_kind`: `vehicles`, `riders`, `trips`; `a_batch_has_rows_or_too_many`;
+//! `a_good_outcome_has_one_plan`.
 #![tactic(auto)]
 
 // Rooms, each names only those above it: lines, points, block, report.
@@ -89,6 +90,7 @@ pub use points::best::is_best_near;
 pub use points::bound::shows_bound;
 pub use points::judging::judge;
 pub use points::nodes::is_fair;
+pub use points::plan_laws::a_good_outcome_has_one_plan;
 pub use points::problem_laws::{
     a_batch_has_one_graph_of_each_kind, a_batch_has_rows_or_too_many, a_batch_settles_in_one_way,
     a_network_has_one_table, a_snapshot_has_one_list_of_points,

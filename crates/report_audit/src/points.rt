@@ -12,6 +12,7 @@ mod moves;
 pub(crate) mod nodes;
 mod orders;
 mod plan;
+pub(crate) mod plan_laws;
 pub(crate) mod problem_laws;
 pub(crate) mod tight;
 mod trips;

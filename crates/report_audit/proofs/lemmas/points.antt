@@ -18,3 +18,4 @@ pub mod FaultLemmas
 pub mod ChoiceLemmas
 pub mod NodeLemmas
 pub mod LimitLemmas
+pub mod OnePlanLemmas

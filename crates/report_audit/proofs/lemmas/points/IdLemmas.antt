@@ -15,11 +15,13 @@ use Rattle.report_audit.proofs.Common.{
   Settings,
   Settled,
   vehicle_at,
-  IsSound,
   rider_id,
   HasOwnIds,
 }
 use Rattle.std.specs.List.{flat_map}
+use Rattle.std.proofs.lemmas.List.{ext_get_or}
+use Rattle.stop_orders.specs.declared.task.settled_rider.SettledRider.{SettledRider}
+use Rattle.stop_orders.specs.task.Settled.{no_rider as unsettled}
 use Rattle.std.proofs.lemmas.List.{length-append}
 use Rattle.std.proofs.lemmas.Option.{slice_get-get_or}
 use Rattle.request_book.specs.declared.values.passenger.Passenger.{Passenger}
@@ -60,8 +62,8 @@ no_rider = record { id = 0; origin = 0; destination = 0; time = 0; party = 1; pr
 abbrev aboard_of : Vehicle → List ℕ
 aboard_of x = map (λ (p : Passenger). p.rider) x.aboard.items
 
-module _ (settings : Settings) (points : List ℕ) (k places : ℕ) (tau : ℕ → ℕ → ℕ) (batch : Batch) (settled : Settled) (kept : IsKept batch)
-    (is : IsSettled settings points tau batch settled) (sound : IsSound k places tau settled) where
+module _ (settings : Settings) (points : List ℕ) (tau : ℕ → ℕ → ℕ) (batch : Batch) (settled : Settled) (kept : IsKept batch)
+    (is : IsSettled settings points tau batch settled) where
   placed_at : (v : ℕ) → v < length settled.vehicles → IsPlaced settings points tau batch.sealed_at (get_or batch.vehicles v no_vehicle) (vehicle_at settled v)
   placed_at v h = is.placed v (get_or batch.vehicles v no_vehicle) (slice_get-get_or batch.vehicles v no_vehicle
       (let n = is.vehicle_count in omega (arith, n, h)))
@@ -74,6 +76,16 @@ module _ (settings : Settings) (points : List ℕ) (k places : ℕ) (tau : ℕ �
 
   told_id : (r : ℕ) → r < length settled.riders → rider_id settled r ≡ get_or (map (λ (x : Rider). x.id) batch.riders) r 0
   told_id r h = search (rules, no_rider, slice_get-get_or, get_or-map)
+
+  settled_id : (r : ℕ) → r < length settled.riders → get_or (map (λ (x : SettledRider). x.id) settled.riders) r 0 ≡ rider_id settled r
+  settled_id r h = get_or-map (λ (x : SettledRider). x.id) settled.riders r unsettled 0 h
+
+  same_ids : map (λ (x : SettledRider). x.id) settled.riders ≡ map (λ (x : Rider). x.id) batch.riders
+  same_ids =
+      let one = length-map settled.riders (λ (x : SettledRider). x.id) in
+      let other = length-map batch.riders (λ (x : Rider). x.id) in
+      ext_get_or 0 (map (λ (x : SettledRider). x.id) settled.riders) (map (λ (x : Rider). x.id) batch.riders) (one ∙ is.rider_count ∙ sym other)
+      (λ r h. settled_id r (omega (arith, one, h)) ∙ told_id r (omega (arith, one, h)))
 
   apart_at : (v r j : ℕ) → v < length settled.vehicles → r < length settled.riders → j < length (vehicle_at settled v).aboard_ids.items →
       rider_id settled r ≡ get_or (vehicle_at settled v).aboard_ids.items j 0 → ⊥
@@ -96,7 +108,7 @@ module _ (settings : Settings) (points : List ℕ) (k places : ℕ) (tau : ℕ �
 
   pub own_ids : HasOwnIds settled
   own_ids = record {
-    riders = λ r s a b e. one_rider settled sound.rider_ids r s a b e;
+    riders = λ r s a b e. one_rider settled (rw same_ids kept.riders_rise) r s a b e;
     counts = λ v h.
         let x = get_or batch.vehicles v no_vehicle in
         ap (λ (xs : List ℕ). length xs) (ids_at v h) ∙ length-map x.aboard.items (λ (p : Passenger). p.rider) ∙ sym (placed_at v h).aboard_count;

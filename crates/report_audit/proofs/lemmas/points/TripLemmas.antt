@@ -181,14 +181,14 @@ module _ (points : List ℕ) (settings : Settings) (tau : ℕ → ℕ → ℕ) (
       one_place graph.rows (graph_in_order settings tau settled graph exact) v (riders_at graph k) j k
       (record { within = a.within; own = a.own; trip = same }) (record { within = b.within; own = b.own; trip = refl })
 
-  no_row_of_late : (v : ℕ) → v < length settled.vehicles → (vehicle_at settled v).late ≡ true → HasNoRow graph v
+  pub no_row_of_late : (v : ℕ) → v < length settled.vehicles → (vehicle_at settled v).late ≡ true → HasNoRow graph v
   no_row_of_late v h late = search rules
 
-  no_choice : (v : ℕ) → HasNoRow graph v → (c : Option ℕ) → MatchOption c (HasNoRow graph v) (IsRowOf graph v) → c ≡ None
+  pub no_choice : (v : ℕ) → HasNoRow graph v → (c : Option ℕ) → MatchOption c (HasNoRow graph v) (IsRowOf graph v) → c ≡ None
   no_choice v none None own' = refl
   no_choice v none (Some k) own' = absurd (none k own')
 
-  tells_of : (chosen : List (Option ℕ)) (v : ℕ) (trip : ChosenTrip) (of : IsTripOf points tau settled graph chosen v trip) →
+  pub tells_of : (chosen : List (Option ℕ)) (v : ℕ) (trip : ChosenTrip) (of : IsTripOf points tau settled graph chosen v trip) →
       TellsRow points tau settled graph v of.row trip
   tells_of chosen v trip of = record { vehicle = of.vehicle; cost = of.cost; stops = of.stops; serves = of.serves; delay = of.delay; told = of.told }
 

@@ -43,9 +43,8 @@ returns-then-not-are_same_riders g c =
 
 pub judge_answer-requires-clause-ids : goal.judge_answer-requires-clause-ids
 judge_answer-requires-clause-ids g c =
-    λ κs lives. own_ids c.args.settings.now c.in_ok-points.points c.args.settings.now.trip (point_count c.in_ok-times.times) (travel_time c.in_ok-times.times)
-    c.args.snapshot.now c.in_ok-settled.settled
-    (subst (λ (b : Batch). IsKept b) c.snapshot.view_is c.snapshot.invariant) c.in_ok-settled.ensures.settled c.in_ok-settled.ensures.sound
+    λ κs lives. own_ids c.args.settings.now c.in_ok-points.points (travel_time c.in_ok-times.times) c.args.snapshot.now c.in_ok-settled.settled
+    (subst (λ (b : Batch). IsKept b) c.snapshot.view_is c.snapshot.invariant) c.in_ok-settled.ensures.settled
 
 pub invariant_of-instance : goal.invariant_of-instance
 invariant_of-instance g c = record { table = c.in_ok-times.ensures.points ∙ length-map _ _ ∙ ap (λ (ps : List ℕ). length ps) c.nodes.ensures.nodes }
