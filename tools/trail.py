@@ -173,6 +173,7 @@ def faults_of_way(trail):
             found.append(f"{piece.place()}: {piece.name} has no line of comment")
     found += [f"{name} stands for several definitions: {', '.join(sorted(places))}"
               for name, places in by_name.items() if len(places) > 1]
+    found += [f"{piece.place()}: {piece.name} names a definition of a later chapter" for piece in trail.early()]
     said = {(piece.place(), piece.name): piece.comment for piece in trail.every}
     return sorted(found) + [f"tools/trails/left.py: the sentence of {place} {name} is no longer needed"
                             for (place, name), sentence in SENTENCES.items() if said.get((place, name), sentence) == sentence]
@@ -277,7 +278,6 @@ def main():
     print(f"trail: {len(trail.kept)} types keep what contracts see by definitions of specs/work: "
           f"{', '.join(sorted(name for _, name in trail.kept))}")
     print(f"trail: {len(SENTENCES)} definitions have their sentence in tools/trails/left.py")
-    print(f"trail: {len(trail.early())} definitions from the headline name one of a later chapter")
     faults = faults_of_files(CRATES) + faults_of_way(trail) + faults_of_types(trail) + hold_lists(trail, "--write" in sys.argv)
     return bool(say_faults(faults))
 

@@ -17,7 +17,7 @@ CHAPTERS = (
     ("Bounds", "What no plan can cost less than, and the tree that shows it.",
      "plan_rules", "assignment_search", "bound_checker"),
     ("Outcomes", "What a batch comes to: its lists, its plan, its bound and its moves, and when these are good.",
-     "rebalancing/specs/Matching", "rebalancing/specs/Potentials", "rebalancing/src/moves", "request_book/src/values/outcome", "dispatch_engine/specs/outcome/Outcome", "dispatch_engine", "report_audit/src/points/verdict", "report_audit/specs/points/Verdict"),
+     "rebalancing/specs/Matching", "rebalancing/specs/Potentials", "rebalancing/src/moves", "request_book/src/values/outcome", "dispatch_engine/specs/outcome/Outcome", "dispatch_engine/specs/outcome", "dispatch_engine/src/outcome", "report_audit/src/points/verdict", "report_audit/specs/points/Verdict"),
     ("Steps", "What a command changes of the book, and what it answers.",
      "pool_base/specs/InOrder", "request_book", "input_rows/src/script/version", "input_rows/specs/script/Round"),
     ("Runs", "What lanes make of a round, and rounds of a script.",
