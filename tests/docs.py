@@ -24,6 +24,7 @@ import textwrap
 from concurrent.futures import ThreadPoolExecutor
 from pathlib import Path
 
+from documents import documents
 from run import difference
 from skips import last_line
 
@@ -34,12 +35,6 @@ MOST_WORDS, MOST_IN_SENTENCE = 900, 30
 BLOCK = re.compile(r"(?:<!-- needs (?P<needs>[^\n]*) -->\n+)?^```(?P<kind>console|sh)\n(?P<body>.*?)^```$", re.M | re.S)
 QUOTED = re.compile(r"<!-- (contract|code) of (\S+) (\w+) -->\n+```rust\n(.*?)^```$", re.M | re.S)
 LINK = re.compile(r"\]\((?!https?:)([^)#\s]*)(?:#([^)\s]*))?\)")
-
-
-def documents():
-    """All documents of the repository; outside a clone, all that lie here."""
-    named = subprocess.run(["git", "ls-files", "-co", "--exclude-standard", "*.md"], cwd=TOP, capture_output=True, text=True)
-    return sorted([TOP / name for name in named.stdout.split()] or TOP.glob("**/*.md"))
 
 
 def guides():

@@ -19,6 +19,7 @@ import sys
 from collections.abc import Iterable
 from pathlib import Path
 
+from documents import documents
 from skips import last_line
 
 TOP = Path(__file__).resolve().parent.parent
@@ -45,12 +46,6 @@ GONE = [
     "as fast as the machine is that day",
 ]
 QUOTE = re.compile(r"<!-- definition of (\S+) (\w+) -->\n+```antt\n(.*?)^```$", re.M | re.S)
-
-
-def pages() -> list[Path]:
-    """All pages of the repository; outside a clone, all that lie here."""
-    named = subprocess.run(["git", "ls-files", "-co", "--exclude-standard", "*.md"], cwd=TOP, capture_output=True, text=True)
-    return sorted(path for path in [TOP / name for name in named.stdout.split()] or TOP.glob("**/*.md") if path.exists())
 
 
 def word_count(text: str) -> int:
@@ -136,7 +131,7 @@ def told(looks: Iterable[list[str]]) -> tuple[int, int]:
 
 
 def main() -> int:
-    texts = {str(path.relative_to(TOP)): path.read_text(encoding="utf-8") for path in pages()}
+    texts = {str(path.relative_to(TOP)): path.read_text(encoding="utf-8") for path in documents()}
     looks = [self_faults(), too_long(texts)]
     looks += [gone_again(name, text) for name, text in texts.items()]
     looks += [stale_quotes(name, text) for name, text in texts.items() if QUOTE.search(text)]
