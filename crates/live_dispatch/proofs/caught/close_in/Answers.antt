@@ -1,4 +1,4 @@
-use Rattle.std.proofs.Common.{◌≡◌, ◌≤◌, ap, subst, ◌∙◌}
+use Rattle.std.proofs.Common.{◌≤◌, ap, subst, ◌∙◌}
 use Rattle.live_dispatch.proofs.CloseLemmas.{close-stopped, closed-to}
 use Rattle.live_dispatch.specs.Desk.{DeskView, OutputsView, desk_of, outputs_seen}
 use Rattle.live_dispatch.specs.work.Closing.{HasEnteredOr}

@@ -1,4 +1,4 @@
-use Rattle.std.proofs.Common.{◌≡◌, ap, refl}
+use Rattle.std.proofs.Common.{ap, refl}
 use Rattle.live_dispatch.proofs.Common.{Batch, Close}
 use Rattle.live_dispatch.specs.Closing.{StopsClose}
 use Rattle.live_dispatch.proofs.caught.close_open.Goals as goal
