@@ -1,65 +1,13 @@
 -- A close at a desk of its own, as the close of a batch that was open.
-use Rattle.std.proofs.Common.{
-  ◌≡◌,
-  ℕ,
-  ◌<◌,
-  Bool,
-  true,
-  false,
-  List,
-  [],
-  ◌∷◌,
-  ◌++◌,
-  length,
-  take,
-  Option,
-  None,
-  Some,
-  Result,
-  Ok,
-  Err,
-  ◌^◌,
-  arith,
-  refl,
-  sym,
-  ap,
-  subst,
-  ◌∙◌,
-}
-use Rattle.live_dispatch.proofs.Common.{
-  Appends,
-  AppendsPart,
-  Batch,
-  BookView,
-  HasCut,
-  LiveFault,
-  OutputsView,
-  ReportFault,
-  Rose,
-  lines_text,
-  entries_lines,
-  notices_from,
-  next_position,
-  Close,
-  Command,
-  Entry,
-  Settings,
-  HaveHeard,
-  Roads,
-  State,
-  entry_text,
-  one-text,
-  step,
-  desk_of,
-  notices_in,
-  text_of,
-}
+use Rattle.std.proofs.Common.{◌≡◌, ℕ, ◌<◌, Bool, true, false, List, [], ◌∷◌, ◌++◌, length, take, Option, None, Some, Ok, Err, ◌^◌, arith, refl, sym, ap, subst, ◌∙◌}
+use Rattle.live_dispatch.proofs.Common.{Appends, Batch, BookView, HasCut, LiveFault, OutputsView, ReportFault, Rose, lines_text, notices_from, next_position, Close, Command, Entry, Settings, HaveHeard, Roads, State, entry_text, one-text, step, desk_of, notices_in, text_of}
 use Rattle.dispatch_engine.specs.declared.lanes.locked.LockedReply.{LockedReply}
 use Rattle.dispatch_engine.specs.outcome.Outcome.{IsGoodOutcome}
 use Rattle.live_dispatch.specs.Closing.{BreaksClose, IsClosedBy, IsClosedTo, StopsClose, book_behind, closing_entry}
 use Rattle.live_dispatch.specs.Desk.{BreaksOff, DeskView, HasEntered, IsDesk, IsPassedOn, IsSameDesk}
 use Rattle.live_dispatch.specs.work.Closing.{HasEnteredOr}
 use Rattle.live_dispatch.specs.declared.fault.LiveFault.TheVariants as live
+use Rattle.dispatch_report.specs.Round.{entries_lines}
 use Rattle.dispatch_report.specs.declared.fault.ReportFault.TheVariants.{WriteFault}
 use Rattle.request_book.specs.Book.{IsApplied}
 use Rattle.request_book.specs.declared.values.outcome.Outcome.{Outcome}
@@ -226,15 +174,15 @@ module _ (settings : Settings) (roads : Roads) (batch : Batch) (outcome : Outcom
         written : why ≡ live.WriteFault → got.fault ≡ Some WriteFault
         written is = ap (λ (d : DeskView). d.fault) parts ∙ c.write_fault (ap Err is)
 
+        unentered : (f : LiveFault) → IsSameDesk start got → (f ≡ live.WriteFault → got.fault ≡ Some WriteFault) → (f ≡ live.ReadFault → ⊥) →
+            StopsClose settings roads batch book before got.now f
+        unentered live.ReadFault same write read = absurd (read refl)
+        unentered live.WriteFault same write read = absurd (let e : None ≡ Some WriteFault = sym same.fault ∙ write refl in cc)
+        unentered live.OutOfMemory same write read = StopsClose.unwritten same.now
+
         by : (b : Bool) → HasEnteredOr b desk close got → StopsClose settings roads batch book before got.now why
         by true (reply, had) =
             stopped got reply (subst (λ (d : DeskView). HasEntered d 0 close reply got) desk_is had) kept got.fault refl why written
             (λ is. c.no_read (ap Err is))
         by false same =
             unentered why (subst (λ (d : DeskView). IsSameDesk d got) desk_is same) written (λ is. c.no_read (ap Err is))
-
-        unentered : (f : LiveFault) → IsSameDesk start got → (f ≡ live.WriteFault → got.fault ≡ Some WriteFault) → (f ≡ live.ReadFault → ⊥) →
-            StopsClose settings roads batch book before got.now f
-        unentered live.ReadFault same write read = absurd (read refl)
-        unentered live.WriteFault same write read = absurd (let e : None ≡ Some WriteFault = sym same.fault ∙ write refl in cc)
-        unentered live.OutOfMemory same write read = StopsClose.unwritten same.now

@@ -1,17 +1,16 @@
 -- A batch that was open when a run began, closed by the next entry.
-use Rattle.std.specs.Prelude.{◌≡◌, ℕ, [], ◌∷◌}
+use Rattle.std.specs.Prelude.{◌≡◌, [], ◌∷◌}
 use Rattle.std.specs.Io.KnownBytes.{Appends}
 use Rattle.dispatch_engine.specs.outcome.Outcome.{IsGoodOutcome}
 use Rattle.live_dispatch.specs.Desk.{OutputsView, notices_in, text_of}
 use Rattle.live_dispatch.specs.declared.fault.LiveFault.{LiveFault}
-use Rattle.live_dispatch.specs.declared.fault.LiveFault.TheVariants.{ReadFault, WriteFault, OutOfMemory}
+use Rattle.live_dispatch.specs.declared.fault.LiveFault.TheVariants.{WriteFault, OutOfMemory}
 use Rattle.pool_io.specs.Faults.{Rose}
 use Rattle.pool_io.specs.Sink.{AppendsPart}
 use Rattle.request_book.specs.Book.{BookView, next_position}
 use Rattle.request_book.specs.notices.Told.{HaveHeard}
 use Rattle.request_book.specs.register.Step.{step}
 use Rattle.request_book.specs.values.Batch.{Batch}
-use Rattle.request_book.specs.declared.values.command.Command.{Command}
 use Rattle.request_book.specs.declared.values.command.Command.TheVariants.{Close}
 use Rattle.request_book.specs.declared.values.journal.Entry.{Entry}
 use Rattle.request_book.specs.declared.values.outcome.Outcome.{Outcome}
