@@ -26,6 +26,13 @@ use Rattle.std.proofs.Common.{
   Option,
   Some,
   None,
+  Result,
+  Ok,
+  Err,
+  IfOk,
+  IfSome,
+  IsTrue,
+  ◌↔◌,
   refl,
   sym,
   ap,
@@ -60,7 +67,7 @@ use Rattle.report_past.proofs.StepLemmas.{no_close}
 use Rattle.report_past.specs.Past.{IsKept, IsPast, StandsBehind, dropped_text}
 use Rattle.report_past.specs.Told.{AreScriptRows, close_of}
 use Rattle.report_past.specs.Whole.{IsWhole}
-use Rattle.report_past.specs.work.Reading.{AreOf, IsAtStart, IsDropped, IsInRound, IsReading, Stand, StandsIn, stand, start_text}
+use Rattle.report_past.specs.work.Reading.{AreOf, IsAbove, IsAtStart, IsDropped, IsInRound, IsReading, Stand, StandsIn, stand, start_text}
 use Rattle.report_past.specs.work.Taking.{Reached, TakesClose, TakesRow, fresh}
 use Rattle.request_book.specs.Book.{BookView, IsApplied, IsBook, next_position, opening}
 use Rattle.request_book.specs.Consistent.{IsNode}
@@ -73,6 +80,7 @@ use Rattle.request_book.specs.declared.values.command.Command.TheVariants.{Close
 use Rattle.request_book.specs.declared.values.journal.Entry.{Entry}
 use Rattle.request_book.specs.declared.values.outcome.Outcome.{Outcome}
 use Rattle.request_book.specs.declared.values.reply.Reply.{Reply}
+use Rattle.request_book.specs.declared.values.reply.Reply.TheVariants.{Closed}
 use Rattle.request_book.specs.declared.values.state.State.{State}
 use Rattle.request_book.specs.declared.values.vehicle.Vehicle.{Vehicle}
 use Rattle.rider_limits.specs.declared.settings.Settings.{Settings}
@@ -115,6 +123,38 @@ close_text position batch outcome rest = first_line (entry_line position (close_
 
 joined : (read start line after : List ℕ) → read ++ (start ++ (line ++ 10 ∷ after)) ≡ (read ++ (start ++ (line ++ 10 ∷ []))) ++ after
 joined read start line after = search (rules, append_assoc)
+
+-- the round in which an item stands
+pub stands_same : (last : Option ℕ) (open_batch : Option Batch) (round : Option ℕ) → round ≡ None → IfSome last (StandsIn last open_batch round)
+stands_same last open_batch round none = subst (λ r. IfSome last (StandsIn last open_batch r)) (sym none) (by last)
+  where
+    by : (o : Option ℕ) → IfSome o (λ n. o ≡ Some n)
+    by None = tt
+    by (Some n) = refl
+
+pub stands_later : (last : Option ℕ) (open_batch : Option Batch) (round found : Option ℕ) (number : ℕ) → round ≡ Some number → open_batch ≡ None
+    → IfSome found (λ n. (n ≡ number) × IsAbove last number × (number ≤ 1000000000)) → IfSome found (StandsIn last open_batch round)
+stands_later last open_batch round None number is closed above = tt
+stands_later last open_batch round (Some n) number is closed above =
+    subst (λ r. StandsIn last open_batch r n) (sym is)
+    (sym above.0, subst (IsAbove last) (sym above.0) above.1, omega (arith, above.0, above.2), closed)
+
+-- a row's line was told
+pub tells_row : {E : Type 0} (told : Result Bool E) (old new : BookView) (lane : ℕ) (command copy : Command) (reply : Reply) (line : List ℕ) (position : ℕ)
+    → IfOk told (λ yes. IsTrue yes ↔ (line ≡ entry_line position (record { lane = lane; command = copy; reply = reply })))
+    → IsApplied old lane command reply new → copy ≡ command → position ≡ next_position old.first old.entries
+    → IfOk told (λ yes. IsTrue yes → (r : Reply) × IsApplied old lane command r new
+    × (line ≡ entry_line (next_position old.first old.entries) (record { lane = lane; command = command; reply = r })))
+tells_row (Ok yes) old new lane command copy reply line position is applied same at =
+    λ on. (reply, applied, is.0 on ∙ (λ i. entry_line (at i) (record { lane = lane; command = same i; reply = reply })))
+tells_row (Err e) old new lane command copy reply line position is applied same at = tt
+
+-- the line of a close doesn't tell its outcome
+pub tells_close : {E : Type 0} (told : Result Bool E) (line : List ℕ) (position batch : ℕ) (some : Outcome)
+    → IfOk told (λ yes. IsTrue yes ↔ (line ≡ entry_line position (record { lane = 0; command = Close batch some; reply = Closed })))
+    → IfOk told (λ yes. IsTrue yes → (outcome : Outcome) → line ≡ entry_line position (record { lane = 0; command = Close batch outcome; reply = Closed }))
+tells_close (Ok yes) line position batch some is = λ on outcome. is.0 on
+tells_close (Err e) line position batch some is = tt
 
 -- the nodes of a batch are the network's
 pub known_nodes : (nodes roads ns : List ℕ) → nodes ≡ roads → All (IsNode nodes) ns → All (λ node. Contains roads node) ns
