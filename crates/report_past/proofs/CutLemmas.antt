@@ -60,11 +60,11 @@ no_one_line [] r h = cc
 no_one_line (c ∷ cs) r h = no_one_line cs r (and_parts (not (c == 10)) (is_one_line (cs ++ 10 ∷ r)) h).1
 
 -- the first line of a text of lines, and the others
-first_line : (x : List ℕ) (xs : List (List ℕ)) (rest : List ℕ) → lines_text (x ∷ xs) ++ rest ≡ x ++ 10 ∷ (lines_text xs ++ rest)
+pub first_line : (x : List ℕ) (xs : List (List ℕ)) (rest : List ℕ) → lines_text (x ∷ xs) ++ rest ≡ x ++ 10 ∷ (lines_text xs ++ rest)
 unfolding lines_text
 first_line x xs rest = search (rules, append_assoc)
 
-no_text : (rest : List ℕ) → lines_text [] ++ rest ≡ rest
+pub no_text : (rest : List ℕ) → lines_text [] ++ rest ≡ rest
 unfolding lines_text
 no_text rest = refl
 

@@ -124,6 +124,11 @@ close_text position batch outcome rest = first_line (entry_line position (close_
 joined : (read start line after : List ℕ) → read ++ (start ++ (line ++ 10 ∷ after)) ≡ (read ++ (start ++ (line ++ 10 ∷ []))) ++ after
 joined read start line after = search (rules, append_assoc)
 
+-- a list without items
+pub empty_list : (xs : List ℕ) → length xs ≡ 0 → xs ≡ []
+empty_list [] none = refl
+empty_list (x ∷ xs) none = absurd (omega (arith, none))
+
 -- the round in which an item stands
 pub stands_same : (last : Option ℕ) (open_batch : Option Batch) (round : Option ℕ) → round ≡ None → IfSome last (StandsIn last open_batch round)
 stands_same last open_batch round none = subst (λ r. IfSome last (StandsIn last open_batch r)) (sym none) (by last)
@@ -145,7 +150,7 @@ pub tells_row : {E : Type 0} (told : Result Bool E) (old new : BookView) (lane :
     → IsApplied old lane command reply new → copy ≡ command → position ≡ next_position old.first old.entries
     → IfOk told (λ yes. IsTrue yes → (r : Reply) × IsApplied old lane command r new
     × (line ≡ entry_line (next_position old.first old.entries) (record { lane = lane; command = command; reply = r })))
-tells_row (Ok yes) old new lane command copy reply line position is applied same at =
+tells_row (Ok tells) old new lane command copy reply line position is applied same at =
     λ on. (reply, applied, is.0 on ∙ (λ i. entry_line (at i) (record { lane = lane; command = same i; reply = reply })))
 tells_row (Err e) old new lane command copy reply line position is applied same at = tt
 
@@ -153,7 +158,7 @@ tells_row (Err e) old new lane command copy reply line position is applied same 
 pub tells_close : {E : Type 0} (told : Result Bool E) (line : List ℕ) (position batch : ℕ) (some : Outcome)
     → IfOk told (λ yes. IsTrue yes ↔ (line ≡ entry_line position (record { lane = 0; command = Close batch some; reply = Closed })))
     → IfOk told (λ yes. IsTrue yes → (outcome : Outcome) → line ≡ entry_line position (record { lane = 0; command = Close batch outcome; reply = Closed }))
-tells_close (Ok yes) line position batch some is = λ on outcome. is.0 on
+tells_close (Ok tells) line position batch some is = λ on outcome. is.0 on
 tells_close (Err e) line position batch some is = tt
 
 -- the nodes of a batch are the network's
