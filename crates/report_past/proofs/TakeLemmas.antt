@@ -3,7 +3,6 @@ use Rattle.std.proofs.Common.{
   rules,
   Bor,
   ◌≡◌,
-  ◌≢◌,
   ℕ,
   ◌-◌,
   ◌<◌,
@@ -58,20 +57,17 @@ unfoldable use Rattle.dispatch_report.specs.Round.{end_text}
 use Rattle.dispatch_report.specs.Round.{entry_block, entry_text, round_line}
 use Rattle.dispatch_report.specs.Words.{numbered}
 use Rattle.input_rows.specs.declared.script.script_row.ScriptRow.{ScriptRow}
-use Rattle.input_rows.specs.script.Round.{MayStand}
 use Rattle.input_rows.specs.script.ScriptRow.{IsBehind}
 use Rattle.live_dispatch.proofs.lemmas.EntryLemmas.{next-low}
 use Rattle.report_audit.specs.block.Block.{BeginsWithGood}
-use Rattle.report_audit.specs.lines.Next.{IsNextLine}
-use Rattle.report_audit.specs.declared.lines.next.NextLine.TheVariants.{Round, Done}
-use Rattle.report_past.proofs.CutLemmas.{first_line, no_text, one_text}
+use Rattle.report_past.proofs.CutLemmas.{first_line, one_text}
 use Rattle.report_past.proofs.FinishLemmas.{IsTold, finishes}
 use Rattle.report_past.proofs.ItemLemmas.{reads_close, reads_row}
 use Rattle.report_past.proofs.StepLemmas.{no_close}
-use Rattle.report_past.specs.Past.{IsKept, IsPast, StandsBehind, dropped_text}
+use Rattle.report_past.specs.Past.{IsPast, dropped_text}
 use Rattle.report_past.specs.Told.{AreScriptRows, close_of}
 use Rattle.report_past.specs.Whole.{IsWhole}
-use Rattle.report_past.specs.work.Reading.{AreOf, IsAbove, IsAtStart, IsDropped, IsInRound, IsReading, Stand, StandsIn, stand, start_text}
+use Rattle.report_past.specs.work.Reading.{IsAbove, IsDropped, IsReading, Stand, StandsIn, stand, start_text}
 use Rattle.report_past.specs.work.Taking.{EntersClose, Reached, TakesClose, TakesRow, TellsBlock, fresh}
 use Rattle.request_book.specs.Book.{BookView, IsApplied, IsBook, next_position, opening}
 use Rattle.request_book.specs.Consistent.{IsNode}
@@ -320,7 +316,8 @@ module _ (settings : Settings) (roads : Roads) (vehicles : List Vehicle) (judged
       (reached : Reached settings roads vehicles judged whole (stand last b open_batch notices) (start_text round ++ (line ++ 10 ∷ after)))
       (stands : StandsIn last open_batch round number) (now : BookView) (next : Option Batch) where
     pub item_closed : (told : List Notice) (found : Result (Bor (List ℕ)) E)
-        → IfOk found (λ rest. (next ≡ None) × ((batch : Batch) × (open_batch ≡ Some batch) × TakesClose settings roads judged b now batch line after rest.now told))
+        → IfOk found (λ rest. (next ≡ None) × ((batch : Batch) × (open_batch ≡ Some batch) × TakesClose settings roads judged b now batch line after rest.now
+        told))
         → IfOk found (λ rest. Reached settings roads vehicles judged whole (stand last now next told) rest.now)
     item_closed told (Err e) is = tt
     item_closed told (Ok rest) is =
@@ -338,8 +335,10 @@ module _ (settings : Settings) (roads : Roads) (vehicles : List Vehicle) (judged
         (subst (Reached settings roads vehicles judged whole (stand (Some number) now next notices)) (sym is.0)
         (row_reached whole last b open_batch notices round line after reached number now next stands is.2))
 
-  pub closed_shorter : {E : Type 0} (b now : BookView) (open_batch next : Option Batch) (line after : List ℕ) (told : List Notice) (found : Result (Bor (List ℕ)) E)
-      → IfOk found (λ rest. (next ≡ None) × ((batch : Batch) × (open_batch ≡ Some batch) × TakesClose settings roads judged b now batch line after rest.now told))
+  pub closed_shorter : {E : Type 0} (b now : BookView) (open_batch next : Option Batch) (line after : List ℕ) (told : List Notice)
+      (found : Result (Bor (List ℕ)) E)
+      → IfOk found (λ rest. (next ≡ None) × ((batch : Batch) × (open_batch ≡ Some batch) × TakesClose settings roads judged b now batch line after rest.now
+      told))
       → IfOk found (λ rest. length rest.now ≤ length after)
   closed_shorter b now open_batch next line after told (Err e) is = tt
   closed_shorter b now open_batch next line after told (Ok rest) is =
