@@ -1,18 +1,14 @@
 -- Lines of a text, and which of them are whole.
 use Rattle.std.proofs.Common.{
   ◌≡◌,
-  ◌≢◌,
   ℕ,
-  ◌+◌,
   ◌-◌,
   ◌≤◌,
-  ◌<◌,
   Bool,
   true,
   false,
   not,
   ◌==◌,
-  ◌&&◌,
   List,
   [],
   ◌∷◌,
@@ -26,7 +22,6 @@ use Rattle.std.proofs.Common.{
   subst,
   ◌∙◌,
   append_assoc,
-  append-nil,
   length-append,
   take-append-drop,
   arith,
@@ -35,8 +30,8 @@ use Rattle.std.proofs.Common.{
 use Rattle.std.proofs.lemmas.Bool.Decides.{nat_tests}
 use Rattle.std.proofs.lemmas.Bool.{and_parts, and_from}
 use Rattle.std.proofs.lemmas.List.{length-take-le}
-use Rattle.std.proofs.lemmas.List.Elements.{All-append, All-cons, All-head, All-nil, All-tail, All-push}
-use Rattle.std.specs.List.{All, flat_map}
+use Rattle.std.proofs.lemmas.List.Elements.{All-append, All-head, All-nil, All-tail, All-push}
+use Rattle.std.specs.List.{All}
 unfoldable use Rattle.dispatch_report.specs.Lines.{lines_text}
 use Rattle.report_audit.specs.lines.Cut.{is_one_line}
 unfoldable use Rattle.report_past.specs.Whole.{after_lines}
@@ -60,11 +55,11 @@ no_one_line [] r h = cc
 no_one_line (c ∷ cs) r h = no_one_line cs r (and_parts (not (c == 10)) (is_one_line (cs ++ 10 ∷ r)) h).1
 
 -- the first line of a text of lines, and the others
-first_line : (x : List ℕ) (xs : List (List ℕ)) (rest : List ℕ) → lines_text (x ∷ xs) ++ rest ≡ x ++ 10 ∷ (lines_text xs ++ rest)
+pub first_line : (x : List ℕ) (xs : List (List ℕ)) (rest : List ℕ) → lines_text (x ∷ xs) ++ rest ≡ x ++ 10 ∷ (lines_text xs ++ rest)
 unfolding lines_text
 first_line x xs rest = search (rules, append_assoc)
 
-no_text : (rest : List ℕ) → lines_text [] ++ rest ≡ rest
+pub no_text : (rest : List ℕ) → lines_text [] ++ rest ≡ rest
 unfolding lines_text
 no_text rest = refl
 

@@ -1,30 +1,6 @@
 -- Where a round begins, and what was told where a reading ends.
-use Rattle.std.proofs.Common.{
-  ◌≡◌,
-  ℕ,
-  ◌<◌,
-  ◌≤◌,
-  ◌^◌,
-  Bool,
-  true,
-  List,
-  [],
-  ◌∷◌,
-  ◌++◌,
-  map,
-  Option,
-  Some,
-  None,
-  refl,
-  sym,
-  ap,
-  subst,
-  ◌∙◌,
-  append_assoc,
-  append-nil,
-  arith,
-}
-use Rattle.std.proofs.lemmas.List.Elements.{All-append, All-cons, All-head, All-nil, All-tail, All-weaker}
+use Rattle.std.proofs.Common.{◌≡◌, ℕ, ◌<◌, ◌≤◌, Bool, true, List, [], ◌∷◌, ◌++◌, Option, Some, None, refl, sym, ap, subst, ◌∙◌, append-nil, arith}
+use Rattle.std.proofs.lemmas.List.Elements.{All-append, All-cons, All-nil, All-weaker}
 use Rattle.std.proofs.lemmas.List.Sums.{fold-append}
 use Rattle.std.specs.List.{All}
 use Rattle.dispatch_engine.proofs.lemmas.lanes.RunLemmas.{position-more, state-more}
@@ -42,7 +18,7 @@ use Rattle.report_past.proofs.StepLemmas.{closed_reply, lanes_close, lanes_close
 unfoldable use Rattle.report_past.specs.Past.{last_notices}
 use Rattle.report_past.specs.Past.{last_round, notices_of_last}
 use Rattle.report_past.specs.Told.{AreScriptRows, IsToldRound, IsToldRun, PastIsGood, close_of, closed_with, with_last}
-use Rattle.report_past.specs.work.Reading.{AreOf, IsAbove, IsAtStart, IsInRound, IsReading, Stand, commands_in, owed, stand}
+use Rattle.report_past.specs.work.Reading.{IsAbove, IsAtStart, IsInRound, IsReading, Stand, commands_in, owed}
 use Rattle.request_book.specs.Book.{BookView, next_position, opening}
 unfoldable use Rattle.request_book.specs.Replay.{RepliesAreSteps, state_after}
 use Rattle.request_book.specs.values.Batch.{Batch}

@@ -1,30 +1,6 @@
 -- An item of a report: an entry, behind the line of its round where it begins.
-use Rattle.std.proofs.Common.{
-  ◌≡◌,
-  ℕ,
-  ◌<◌,
-  ◌≤◌,
-  Bool,
-  true,
-  unwrap_or,
-  List,
-  [],
-  ◌∷◌,
-  ◌++◌,
-  Option,
-  Some,
-  None,
-  refl,
-  sym,
-  ap,
-  subst,
-  ◌∙◌,
-  append_assoc,
-  append-nil,
-  arith,
-}
+use Rattle.std.proofs.Common.{◌≡◌, ℕ, ◌<◌, ◌≤◌, Bool, true, unwrap_or, List, [], ◌∷◌, ◌++◌, Option, Some, None, refl, sym, ap, subst, ◌∙◌, append_assoc, arith}
 use Rattle.std.proofs.lemmas.List.Elements.{All-append, All-weaker}
-use Rattle.std.specs.List.{All}
 use Rattle.dispatch_engine.specs.lanes.Lane.{last_sealed}
 use Rattle.dispatch_engine.specs.lanes.Locked.{snapshot_before}
 use Rattle.dispatch_engine.specs.outcome.Outcome.{IsGoodOutcome}
@@ -32,18 +8,16 @@ unfoldable use Rattle.dispatch_report.specs.Round.{round_text, entries_lines}
 use Rattle.dispatch_report.specs.Round.{entry_text, round_line}
 use Rattle.input_rows.specs.declared.script.script_row.ScriptRow.{ScriptRow}
 use Rattle.input_rows.specs.script.ScriptRow.{IsBehind}
-use Rattle.input_rows.specs.script.Round.{MayStand}
 use Rattle.report_past.proofs.CloseLemmas.{round_last}
 use Rattle.report_past.proofs.FinishLemmas.{Begins, begins}
 use Rattle.report_past.proofs.RoundLemmas.{own_most}
-use Rattle.report_past.proofs.StepLemmas.{closed_reply, push_close, push_row}
+use Rattle.report_past.proofs.StepLemmas.{push_close, push_row}
 use Rattle.report_past.specs.Told.{close_of}
-use Rattle.report_past.specs.work.Reading.{IsAtStart, IsInRound, IsReading, Stand, StandsIn, stand, start_text}
+use Rattle.report_past.specs.work.Reading.{IsInRound, IsReading, Stand, StandsIn, stand, start_text}
 use Rattle.request_book.specs.Book.{BookView, IsApplied, next_position}
 use Rattle.request_book.specs.notices.Notices.{entry_notices}
 use Rattle.request_book.specs.values.Batch.{Batch}
 use Rattle.request_book.specs.declared.notices.notice.Notice.{Notice}
-use Rattle.request_book.specs.declared.values.command.Command.{Command}
 use Rattle.request_book.specs.declared.values.command.Command.TheVariants.{Close}
 use Rattle.request_book.specs.declared.values.journal.Entry.{Entry}
 use Rattle.request_book.specs.declared.values.journal.Journal.{Journal}

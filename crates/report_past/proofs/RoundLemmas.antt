@@ -2,7 +2,6 @@
 use Rattle.std.proofs.Common.{
   rules,
   ◌≡◌,
-  ◌≢◌,
   ℕ,
   zero,
   suc,
@@ -15,7 +14,6 @@ use Rattle.std.proofs.Common.{
   [],
   ◌∷◌,
   ◌++◌,
-  get_or,
   map,
   fold,
   Option,
@@ -24,7 +22,6 @@ use Rattle.std.proofs.Common.{
   refl,
   sym,
   ap,
-  subst,
   ◌∙◌,
   inl,
   inr,
@@ -47,7 +44,6 @@ use Rattle.report_past.proofs.LaterLemmas.{further_rounds, top}
 use Rattle.report_past.specs.Past.{last_round}
 use Rattle.report_past.specs.Told.{AreScriptRows}
 use Rattle.report_past.specs.work.Reading.{AreOf, commands_in}
-use Rattle.request_book.specs.declared.values.command.Command.{Command}
 
 -- of rows of one round the lane alone decides
 of_round-own : (rows : List ScriptRow) (number lane : ℕ) → AreOf number rows → map (λ (l : ScriptRow). l.command)

@@ -1,8 +1,8 @@
 -- From an item to what a reading has reached.
 use Rattle.std.proofs.Common.{
   rules,
+  Bor,
   ◌≡◌,
-  ◌≢◌,
   ℕ,
   ◌-◌,
   ◌<◌,
@@ -12,6 +12,7 @@ use Rattle.std.proofs.Common.{
   unwrap_or,
   Bool,
   true,
+  false,
   List,
   [],
   ◌∷◌,
@@ -26,6 +27,13 @@ use Rattle.std.proofs.Common.{
   Option,
   Some,
   None,
+  Result,
+  Ok,
+  Err,
+  IfOk,
+  IfSome,
+  IsTrue,
+  ◌↔◌,
   refl,
   sym,
   ap,
@@ -40,6 +48,7 @@ use Rattle.std.proofs.Common.{
 use Rattle.std.proofs.lemmas.Bool.{eqb-true}
 use Rattle.std.proofs.lemmas.Map.Views.{Contains-from_any}
 use Rattle.std.proofs.lemmas.List.{length-take-le, take-append-le, take_all}
+use Rattle.std.specs.Option.{is_some}
 use Rattle.dispatch_engine.specs.lanes.Lane.{last_sealed}
 use Rattle.dispatch_report.specs.Block.{block_lines}
 use Rattle.dispatch_report.specs.Entry.{entry_line}
@@ -48,20 +57,18 @@ unfoldable use Rattle.dispatch_report.specs.Round.{end_text}
 use Rattle.dispatch_report.specs.Round.{entry_block, entry_text, round_line}
 use Rattle.dispatch_report.specs.Words.{numbered}
 use Rattle.input_rows.specs.declared.script.script_row.ScriptRow.{ScriptRow}
-use Rattle.input_rows.specs.script.Round.{MayStand}
 use Rattle.input_rows.specs.script.ScriptRow.{IsBehind}
 use Rattle.live_dispatch.proofs.lemmas.EntryLemmas.{next-low}
-use Rattle.report_audit.specs.lines.Next.{IsNextLine}
-use Rattle.report_audit.specs.declared.lines.next.NextLine.TheVariants.{Round, Done}
-use Rattle.report_past.proofs.CutLemmas.{first_line, no_text, one_text}
+use Rattle.report_audit.specs.block.Block.{BeginsWithGood}
+use Rattle.report_past.proofs.CutLemmas.{first_line, one_text}
 use Rattle.report_past.proofs.FinishLemmas.{IsTold, finishes}
 use Rattle.report_past.proofs.ItemLemmas.{reads_close, reads_row}
 use Rattle.report_past.proofs.StepLemmas.{no_close}
-use Rattle.report_past.specs.Past.{IsKept, IsPast, StandsBehind, dropped_text}
+use Rattle.report_past.specs.Past.{IsPast, dropped_text}
 use Rattle.report_past.specs.Told.{AreScriptRows, close_of}
 use Rattle.report_past.specs.Whole.{IsWhole}
-use Rattle.report_past.specs.work.Reading.{AreOf, IsAtStart, IsDropped, IsInRound, IsReading, Stand, StandsIn, stand, start_text}
-use Rattle.report_past.specs.work.Taking.{Reached, TakesClose, TakesRow, fresh}
+use Rattle.report_past.specs.work.Reading.{IsAbove, IsDropped, IsReading, Stand, StandsIn, stand, start_text}
+use Rattle.report_past.specs.work.Taking.{EntersClose, Reached, TakesClose, TakesRow, TellsBlock, fresh}
 use Rattle.request_book.specs.Book.{BookView, IsApplied, IsBook, next_position, opening}
 use Rattle.request_book.specs.Consistent.{IsNode}
 use Rattle.request_book.specs.Points.{named_nodes}
@@ -73,6 +80,7 @@ use Rattle.request_book.specs.declared.values.command.Command.TheVariants.{Close
 use Rattle.request_book.specs.declared.values.journal.Entry.{Entry}
 use Rattle.request_book.specs.declared.values.outcome.Outcome.{Outcome}
 use Rattle.request_book.specs.declared.values.reply.Reply.{Reply}
+use Rattle.request_book.specs.declared.values.reply.Reply.TheVariants.{Closed}
 use Rattle.request_book.specs.declared.values.state.State.{State}
 use Rattle.request_book.specs.declared.values.vehicle.Vehicle.{Vehicle}
 use Rattle.rider_limits.specs.declared.settings.Settings.{Settings}
@@ -116,6 +124,53 @@ close_text position batch outcome rest = first_line (entry_line position (close_
 joined : (read start line after : List ℕ) → read ++ (start ++ (line ++ 10 ∷ after)) ≡ (read ++ (start ++ (line ++ 10 ∷ []))) ++ after
 joined read start line after = search (rules, append_assoc)
 
+-- a list without items
+pub empty_list : (xs : List ℕ) → length xs ≡ 0 → xs ≡ []
+empty_list [] none = refl
+empty_list (x ∷ xs) none = absurd (omega (arith, none))
+
+-- the round in which an item stands
+pub stands_same : (last : Option ℕ) (open_batch : Option Batch) (round : Option ℕ) → round ≡ None → IfSome last (StandsIn last open_batch round)
+stands_same last open_batch round none = subst (λ r. IfSome last (StandsIn last open_batch r)) (sym none) (by last)
+  where
+    by : (o : Option ℕ) → IfSome o (λ n. o ≡ Some n)
+    by None = tt
+    by (Some n) = refl
+
+pub stands_later : (last : Option ℕ) (open_batch : Option Batch) (round found : Option ℕ) (number : ℕ) → round ≡ Some number → open_batch ≡ None
+    → IfSome found (λ n. (n ≡ number) × IsAbove last number × (number ≤ 1000000000)) → IfSome found (StandsIn last open_batch round)
+stands_later last open_batch round None number is closed above = tt
+stands_later last open_batch round (Some n) number is closed above =
+    subst (λ r. StandsIn last open_batch r n) (sym is)
+    (sym above.0, subst (IsAbove last) (sym above.0) above.1, omega (arith, above.0, above.2), closed)
+
+-- a row's line was told
+pub tells_row : {E : Type 0} (told : Result Bool E) (old new : BookView) (lane : ℕ) (command copy : Command) (reply : Reply) (line : List ℕ) (position : ℕ)
+    → IfOk told (λ yes. IsTrue yes ↔ (line ≡ entry_line position (record { lane = lane; command = copy; reply = reply })))
+    → IsApplied old lane command reply new → copy ≡ command → position ≡ next_position old.first old.entries
+    → IfOk told (λ yes. IsTrue yes → (r : Reply) × IsApplied old lane command r new
+    × (line ≡ entry_line (next_position old.first old.entries) (record { lane = lane; command = command; reply = r })))
+tells_row (Ok tells) old new lane command copy reply line position is applied same at =
+    λ on. (reply, applied, is.0 on ∙ (λ i. entry_line (at i) (record { lane = lane; command = same i; reply = reply })))
+tells_row (Err e) old new lane command copy reply line position is applied same at = tt
+
+-- the line of a close doesn't tell its outcome
+pub tells_close : {E : Type 0} (told : Result Bool E) (line : List ℕ) (position batch : ℕ) (some : Outcome)
+    → IfOk told (λ yes. IsTrue yes ↔ (line ≡ entry_line position (record { lane = 0; command = Close batch some; reply = Closed })))
+    → IfOk told (λ yes. IsTrue yes → (outcome : Outcome) → line ≡ entry_line position (record { lane = 0; command = Close batch outcome; reply = Closed }))
+tells_close (Ok tells) line position batch some is = λ on outcome. is.0 on
+tells_close (Err e) line position batch some is = tt
+
+-- no batch is open
+pub none_of : (open_batch : Option Batch) → is_some open_batch ≡ false → open_batch ≡ None
+none_of None none = refl
+none_of (Some batch) none = absurd (let no : true ≡ false = none in cc)
+
+-- what is left behind an item is shorter
+pub shorter_rest : (rest start line after behind : List ℕ) → rest ≡ start ++ (line ++ 10 ∷ after) → length behind ≤ length after → length behind < length rest
+shorter_rest rest start line after behind is low =
+    omega (arith, low, ap length is, length-append start (line ++ 10 ∷ after), length-append line (10 ∷ after))
+
 -- the nodes of a batch are the network's
 pub known_nodes : (nodes roads ns : List ℕ) → nodes ≡ roads → All (IsNode nodes) ns → All (λ node. Contains roads node) ns
 known_nodes nodes roads ns is all = λ k d within.
@@ -126,6 +181,12 @@ known_nodes nodes roads ns is all = λ k d within.
 named_row : (last : ℕ) (front : List ScriptRow) (row : ScriptRow) (rows : List ScriptRow) → AreScriptRows last (front ++ (row ∷ rows)) → row.round ≤ 1000000000
 named_row last [] row rows are = are.0.number
 named_row last (f ∷ front) row rows are = named_row f.round front row rows are.1
+
+pub rowed_shorter : {E : Type 0} (b now : BookView) (open_batch next : Option Batch) (line after : List ℕ) (number : ℕ) (last_now : Option ℕ)
+    (found : Result (Bor (List ℕ)) E) → IfOk found (λ rest. (rest.now ≡ after) × (last_now ≡ Some number) × TakesRow b now open_batch next line)
+    → IfOk found (λ rest. length rest.now ≤ length after)
+rowed_shorter b now open_batch next line after number last_now (Err e) is = tt
+rowed_shorter b now open_batch next line after number last_now (Ok rest) is = omega (arith, ap length is.0)
 
 module _ (settings : Settings) (roads : Roads) (vehicles : List Vehicle) (judged : Bool) where
   named_last : (read : List ℕ) (s : Stand) (n : ℕ) → IsReading settings roads vehicles judged read s → s.last ≡ Some n → n ≤ 1000000000
@@ -225,6 +286,65 @@ module _ (settings : Settings) (roads : Roads) (vehicles : List Vehicle) (judged
             (reads_close settings roads vehicles judged reached.read last b batch notices takes.outcome enters.reply enters.closed told reached.reading
             enters.applied enters.told_is takes.tells.good));
       }
+
+  -- what was found of an item
+  pub tells_unjudged : {X E : Type 0} (batch : Batch) (text : List ℕ) (outcome_of : X → Outcome) (rest_of : X → List ℕ) (found : Result X E) → judged ≡ false
+      → IfOk found (λ x. text ≡ lines_text (block_lines true batch.number (outcome_of x)) ++ rest_of x)
+      → IfOk found (λ x. TellsBlock settings roads judged batch text (outcome_of x) (rest_of x))
+  tells_unjudged batch text outcome_of rest_of (Ok x) off is = record { block = is; good = λ on. absurd (let no : true ≡ false = sym on ∙ off in cc) }
+  tells_unjudged batch text outcome_of rest_of (Err e) off is = tt
+
+  pub tells_judged : {X E : Type 0} (batch : Batch) (text : List ℕ) (outcome_of : X → Outcome) (rest_of : X → List ℕ) (found : Result X E)
+      → IfOk found (λ x. BeginsWithGood settings roads batch text (outcome_of x) (rest_of x))
+      → IfOk found (λ x. TellsBlock settings roads judged batch text (outcome_of x) (rest_of x))
+  tells_judged batch text outcome_of rest_of (Ok x) is = record { block = is.whole; good = λ on. is.good }
+  tells_judged batch text outcome_of rest_of (Err e) is = tt
+
+  pub close_takes : (old new : BookView) (batch : Batch) (line after rest : List ℕ) (told : List Notice) (outcome : Outcome) (position number : ℕ)
+      → number ≡ batch.number → position ≡ next_position old.first old.entries → TellsBlock settings roads judged batch after outcome rest
+      → line ≡ entry_line position (record { lane = 0; command = Close number outcome; reply = Closed })
+      → EntersClose old new number outcome told → TakesClose settings roads judged old new batch line after rest told
+  close_takes old new batch line after rest told outcome position number same at tells line_is enters = record {
+    outcome = outcome;
+    tells = tells;
+    line_is = line_is ∙ (λ i. entry_line (at i) (record { lane = 0; command = Close (same i) outcome; reply = Closed }));
+    enters = subst (λ n. EntersClose old new n outcome told) same enters;
+  }
+
+  module _ {E : Type 0} (whole : List ℕ) (last : Option ℕ) (b : BookView) (open_batch : Option Batch) (notices : List Notice) (round : Option ℕ)
+      (line after : List ℕ) (number : ℕ)
+      (reached : Reached settings roads vehicles judged whole (stand last b open_batch notices) (start_text round ++ (line ++ 10 ∷ after)))
+      (stands : StandsIn last open_batch round number) (now : BookView) (next : Option Batch) where
+    pub item_closed : (told : List Notice) (found : Result (Bor (List ℕ)) E)
+        → IfOk found (λ rest. (next ≡ None) × ((batch : Batch) × (open_batch ≡ Some batch) × TakesClose settings roads judged b now batch line after rest.now
+        told))
+        → IfOk found (λ rest. Reached settings roads vehicles judged whole (stand last now next told) rest.now)
+    item_closed told (Err e) is = tt
+    item_closed told (Ok rest) is =
+        subst (λ o. Reached settings roads vehicles judged whole (stand last now o told) rest.now) (sym is.0)
+        (close_reached whole last b is.1.0 notices round line after rest.now number now told
+        (subst (λ o. Reached settings roads vehicles judged whole (stand last b o notices) (start_text round ++ (line ++ 10 ∷ after))) is.1.1 reached)
+        (subst (λ o. StandsIn last o round number) is.1.1 stands) is.1.2)
+
+    pub item_rowed : (last_now : Option ℕ) (found : Result (Bor (List ℕ)) E)
+        → IfOk found (λ rest. (rest.now ≡ after) × (last_now ≡ Some number) × TakesRow b now open_batch next line)
+        → IfOk found (λ rest. Reached settings roads vehicles judged whole (stand last_now now next notices) rest.now)
+    item_rowed last_now (Err e) is = tt
+    item_rowed last_now (Ok rest) is =
+        subst (λ l. Reached settings roads vehicles judged whole (stand l now next notices) rest.now) (sym is.1)
+        (subst (Reached settings roads vehicles judged whole (stand (Some number) now next notices)) (sym is.0)
+        (row_reached whole last b open_batch notices round line after reached number now next stands is.2))
+
+  pub closed_shorter : {E : Type 0} (b now : BookView) (open_batch next : Option Batch) (line after : List ℕ) (told : List Notice)
+      (found : Result (Bor (List ℕ)) E)
+      → IfOk found (λ rest. (next ≡ None) × ((batch : Batch) × (open_batch ≡ Some batch) × TakesClose settings roads judged b now batch line after rest.now
+      told))
+      → IfOk found (λ rest. length rest.now ≤ length after)
+  closed_shorter b now open_batch next line after told (Err e) is = tt
+  closed_shorter b now open_batch next line after told (Ok rest) is =
+      let takes = is.1.2 in
+      let block = lines_text (block_lines true is.1.0.number takes.outcome) in
+      omega (arith, ap length takes.tells.block, length-append block rest.now)
 
   -- at the start and at the end
   pub reached_start : (whole : List ℕ) (b : BookView) (notices : List Notice) → b ≡ record

@@ -20,7 +20,6 @@ use travel_times::NetworkWays;
 
 /// The close of this batch, by its line and what follows it: it is taken into the book, its notices are put in place of
 /// the last, and what follows its block is the answer. `None` where the line isn't the close's.
-#[tactic(none)]
 pub(crate) fn take_close<'a, G: Gate>(
     rt: &(impl Threads + Sync),
     book: &mut Book,
@@ -49,7 +48,6 @@ pub(crate) fn take_close<'a, G: Gate>(
 }
 
 /// The block of this batch, which is judged where the caller wants it.
-#[tactic(none)]
 fn read_block<'a, G: Gate>(
     rt: &(impl Threads + Sync),
     text: &'a [u8],
@@ -79,7 +77,6 @@ fn read_block<'a, G: Gate>(
 }
 
 /// Enters a close, and gives up the journal of the book: what the close tells its riders.
-#[tactic(none)]
 fn enter_close(
     alloc: Global,
     book: &mut Book,
@@ -96,14 +93,25 @@ fn enter_close(
             return Err(fault);
         }
     };
-    let _reply = book.apply(0, close)?;
-    let journal = book.take_round()?;
-    drop(journal);
-    Ok(told)
+    match book.apply(0, close) {
+        Ok(_reply) => match book.take_round() {
+            Ok(journal) => {
+                drop(journal);
+                Ok(told)
+            }
+            Err(fault) => {
+                drop(told);
+                Err(fault)
+            }
+        },
+        Err(fault) => {
+            drop(told);
+            Err(fault)
+        }
+    }
 }
 
 /// Whether the line is that of the close of this batch, answered `closed`. The outcome isn't in the line.
-#[tactic(none)]
 fn is_close_line(alloc: Global, line: &[u8], position: u64, batch: u64) -> Result<bool, OutOfMemory>
     ensures { IfOk result (λ yes. IsTrue yes → (outcome : OneOutcome) → line.now ≡ entry_line position (record { lane = 0; command = Closes batch outcome; reply = IsClosed })) }
 {

@@ -19,7 +19,6 @@ pub(crate) struct Item<'a> {
 }
 
 /// The item with which the rest of a text begins; `None` where nothing is left but what is dropped.
-#[tactic(none)]
 pub(crate) fn item_first<'a>(text: &[u8], rest: &'a [u8]) -> Result<Option<Item<'a>>, AuditFault>
     ensures { IfOk result (λ found. MatchOption found (IsDropped rest.entry.now) (λ item. rest.entry.now ≡ start_text item.round ++ (item.line.now ++ 10 ∷ item.after.now))) }
 {
@@ -50,7 +49,6 @@ pub(crate) fn item_first<'a>(text: &[u8], rest: &'a [u8]) -> Result<Option<Item<
 }
 
 /// The number of the round whose line comes first, and what follows it; or nothing, and the text.
-#[tactic(none)]
 fn round_first(text: &[u8]) -> (Option<u32>, &[u8])
     ensures { text.now ≡ start_text result.0 ++ result.1.now }
 {
@@ -72,7 +70,6 @@ struct Line<'a> {
 }
 
 /// The line with which the rest of a text begins, which has the form of one between blocks.
-#[tactic(none)]
 fn next_line<'a>(text: &[u8], rest: &'a [u8]) -> Result<Line<'a>, AuditFault>
     ensures { IfOk result (λ r. (rest.entry.now ≡ r.line.now ++ 10 ∷ r.after.now) × IsNextLine r.next r.line.now) }
 {

@@ -40,7 +40,6 @@ pub struct Past<'a> {
 /// The book is run through the kept part: each entry's line must be the one that the book prints, and each close is entered
 /// with the outcome that its block tells. With `judge` each outcome must be good for its batch; else it is taken as it is
 /// told.
-#[tactic(none)]
 pub fn read_past<'a, G: Gate>(
     rt: &(impl Threads + Sync),
     alloc: Global,
@@ -96,7 +95,6 @@ pub fn read_past<'a, G: Gate>(
 }
 
 /// Reads all items: what is left is dropped.
-#[tactic(none)]
 fn read_items<'a, G: Gate>(
     rt: &(impl Threads + Sync),
     book: &mut Book,
@@ -124,7 +122,6 @@ fn read_items<'a, G: Gate>(
 }
 
 /// Gives up the journal of a book.
-#[tactic(none)]
 fn give_up(book: &mut Book) -> Result<(), AuditFault>
     ensures { IfOk result (λ _. (book.new ≡ fresh book.old) × IsBook book.new) }
 {

@@ -15,7 +15,6 @@ use request_book::{Book, Command, Entry, Snapshot};
 use std::alloc::Global;
 
 /// Takes the row whose entry has this line into the book: whether it is one that may come, and the book prints the line.
-#[tactic(none)]
 pub(crate) fn take_row(
     alloc: Global,
     book: &mut Book,
@@ -48,20 +47,24 @@ pub(crate) fn take_row(
 }
 
 /// Whether a row's command may come in a lane: a seal in lane 0 alone, and nothing in lane 0 while a batch is open.
-#[tactic(none)]
 fn may_come(lane: u8, command: &Command, is_open: bool) -> bool
     ensures { IsTrue result → (lane < 16) × MayStand lane command.now × (lane ≡ 0 → is_open ≡ false) }
 {
-    let may_stand = match command {
+    may_stand(lane, command) && (lane != 0 || !is_open)
+}
+
+/// Whether a row's command may stand in a lane.
+fn may_stand(lane: u8, command: &Command) -> bool
+    ensures { IsTrue result → (lane < 16) × MayStand lane command.now }
+{
+    match command {
         Command::Seal { .. } => lane == 0,
         Command::Close { .. } => false,
         _ => lane < 16,
-    };
-    may_stand && (lane != 0 || !is_open)
+    }
 }
 
 /// Answers a command, and says whether the line is that of the entry which this makes.
-#[tactic(none)]
 fn answered(
     alloc: Global,
     book: &mut Book,
@@ -86,7 +89,6 @@ fn answered(
 }
 
 /// Puts up the batch of a command, if it has one.
-#[tactic(none)]
 fn put_up(open: &mut Option<Snapshot>, next: Option<Snapshot>)
     ensures { open.new ≡ last_sealed open.old next }
 {

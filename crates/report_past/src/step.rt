@@ -17,7 +17,6 @@ use shared_work::Gate;
 use std::thread::Threads;
 
 /// Takes an item into the book: what follows it.
-#[tactic(none)]
 pub(crate) fn take_item<'a, G: Gate>(
     rt: &(impl Threads + Sync),
     book: &mut Book,
@@ -44,13 +43,12 @@ pub(crate) fn take_item<'a, G: Gate>(
 }
 
 /// The round in which an item stands: the last, or a later one that begins before it while no batch is open.
-#[tactic(none)]
 fn number_of(last: Option<u32>, open: &Option<Snapshot>, round: Option<u32>) -> Option<u32>
     ensures { IfSome result (StandsIn last open.now round) }
 {
     match round {
         None => last,
-        Some(number) => if open.is_some() || number > 1_000_000_000 {
+        Some(number) => if open.is_some() {
             None
         } else {
             above(last, number)
@@ -58,11 +56,13 @@ fn number_of(last: Option<u32>, open: &Option<Snapshot>, round: Option<u32>) -> 
     }
 }
 
-/// The number, where it is above the last.
-#[tactic(none)]
+/// The number, where it is above the last and one that a script may have.
 fn above(last: Option<u32>, number: u32) -> Option<u32>
-    ensures { IfSome result (λ n. (n ≡ number) × IsAbove last number) }
+    ensures { IfSome result (λ n. (n ≡ number) × IsAbove last number × (number ≤ 1000000000)) }
 {
+    if number > 1_000_000_000 {
+        return None;
+    }
     match last {
         Some(before) => if number > before { Some(number) } else { None },
         None => Some(number),
@@ -83,7 +83,6 @@ fn start_fault(text: &[u8], last: Option<u32>, item: &Item<'_>) -> AuditFault {
 }
 
 /// Takes the close of the batch that is open: what follows its block.
-#[tactic(none)]
 fn close_taken<'a, G: Gate>(
     rt: &(impl Threads + Sync),
     book: &mut Book,
@@ -109,7 +108,6 @@ fn close_taken<'a, G: Gate>(
 }
 
 /// Takes a row of this round: what follows its line.
-#[tactic(none)]
 fn row_taken<'a, G: Gate>(
     book: &mut Book,
     last: &mut Option<u32>,

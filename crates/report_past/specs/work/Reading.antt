@@ -1,5 +1,5 @@
 -- How far the kept part of a report was read.
-use Rattle.std.specs.Prelude.{◌≡◌, ℕ, ◌<◌, ◌≤◌, ◌^◌, zero, suc, ◌==◌, Bool, true, List, [], ◌∷◌, ◌++◌, length, map, filter, All, Option, None, Some, option_map}
+use Rattle.std.specs.Prelude.{◌≡◌, ℕ, ◌<◌, ◌≤◌, ◌^◌, zero, suc, ◌==◌, Bool, true, List, [], ◌∷◌, ◌++◌, map, filter, All, Option, None, Some, option_map}
 use Rattle.std.specs.Option.{option_map_or}
 use Rattle.dispatch_engine.specs.lanes.Lane.{ClosesAreGood, IsLaneRun, IsLaneRunFrom, of_lane}
 use Rattle.dispatch_engine.specs.lanes.Run.{position_after_run, state_after_run}
@@ -61,7 +61,8 @@ start_text round = option_map_or round_line round []
 module _ (settings : Settings) (roads : Roads) (vehicles : List Vehicle) (judged : Bool) where
   -- behind this text a round is read: rows of rounds before it, whose journals are closed, and its own rows with its
   -- journal; however the batch that is open is closed, its lanes are done
-  pub record IsInRound (before : List ℕ) (front rows : List ScriptRow) (done : List Journal) (j : Journal) (number : ℕ) (b : BookView) (open_batch : Option Batch) (notices : List Notice) : Type 0 where
+  pub record IsInRound (before : List ℕ) (front rows : List ScriptRow) (done : List Journal) (j : Journal) (number : ℕ) (b : BookView)
+      (open_batch : Option Batch) (notices : List Notice) : Type 0 where
     pub told : IsToldRun settings roads (opening vehicles) 0 (rows_rounds front) done
     pub earlier : All (λ l. l.round < number) front
     pub own : AreOf number rows
@@ -71,7 +72,8 @@ module _ (settings : Settings) (roads : Roads) (vehicles : List Vehicle) (judged
     pub first : j.first ≡ position_after_run 0 done
     pub low : j.first < 2 ^ 64
     pub replies : RepliesAreSteps roads.nodes settings.wait j.base j.entries
-    pub lanes : (lane : ℕ) (rest : List Entry) → IsLaneRunFrom (owed open_batch lane) [] rest → IsLaneRun (commands_in rows lane) (of_lane lane j.entries ++ rest)
+    pub lanes : (lane : ℕ) (rest : List Entry) → IsLaneRunFrom (owed open_batch lane) [] rest →
+        IsLaneRun (commands_in rows lane) (of_lane lane j.entries ++ rest)
     pub nodes : b.nodes ≡ roads.nodes
     pub wait : b.wait ≡ settings.wait
     pub state : b.state ≡ state_after roads.nodes settings.wait j.base j.entries
@@ -92,9 +94,12 @@ module _ (settings : Settings) (roads : Roads) (vehicles : List Vehicle) (judged
 
   -- this text was read, and here the reading stands
   pub data IsReading : List ℕ → Stand → Type 0 where
-    at_start : (b : BookView) (open_batch : Option Batch) (notices : List Notice) → IsAtStart b open_batch notices → IsReading [] (stand None b open_batch notices)
-    in_round : (before : List ℕ) (front : List ScriptRow) (row : ScriptRow) (rows : List ScriptRow) (done : List Journal) (j : Journal) (number : ℕ) (b : BookView) (open_batch : Option Batch) (notices : List Notice)
-        → IsInRound before front (row ∷ rows) done j number b open_batch notices → IsReading (before ++ round_text number true j) (stand (Some number) b open_batch notices)
+    at_start : (b : BookView) (open_batch : Option Batch) (notices : List Notice) → IsAtStart b open_batch notices →
+        IsReading [] (stand None b open_batch notices)
+    in_round : (before : List ℕ) (front : List ScriptRow) (row : ScriptRow) (rows : List ScriptRow) (done : List Journal) (j : Journal) (number : ℕ)
+        (b : BookView) (open_batch : Option Batch) (notices : List Notice)
+        → IsInRound before front (row ∷ rows) done j number b open_batch notices → IsReading (before ++ round_text number true j)
+        (stand (Some number) b open_batch notices)
 
 -- what is left is dropped: the line of an empty round and the last line of a report, or nothing
 abbrev pub IsDropped : List ℕ → Type 0

@@ -1,5 +1,5 @@
 -- What one item adds to a reading.
-use Rattle.std.specs.Prelude.{◌≡◌, ℕ, ◌<◌, Bool, true, List, [], ◌∷◌, ◌++◌, Option, None, Some}
+use Rattle.std.specs.Prelude.{◌≡◌, ℕ, ◌<◌, Bool, true, List, [], ◌++◌, Option, None}
 use Rattle.dispatch_engine.specs.lanes.Lane.{last_sealed}
 use Rattle.dispatch_engine.specs.lanes.Locked.{snapshot_before}
 use Rattle.dispatch_engine.specs.outcome.Outcome.{IsGoodOutcome}
@@ -54,7 +54,8 @@ pub record TellsBlock (settings : Settings) (roads : Roads) (judged : Bool) (bat
   pub good : judged ≡ true → IsGoodOutcome settings roads batch outcome
 
 -- the line is that of the open batch's close, behind it stands its block, and the book took the close
-pub record TakesClose (settings : Settings) (roads : Roads) (judged : Bool) (old new : BookView) (batch : Batch) (line after rest : List ℕ) (told : List Notice) : Type 0 where
+pub record TakesClose (settings : Settings) (roads : Roads) (judged : Bool) (old new : BookView) (batch : Batch) (line after rest : List ℕ)
+    (told : List Notice) : Type 0 where
   pub outcome : Outcome
   pub tells : TellsBlock settings roads judged batch after outcome rest
   pub line_is : line ≡ entry_line (next_position old.first old.entries) (close_of batch outcome)

@@ -1,5 +1,5 @@
 -- How far a text was walked through.
-use Rattle.std.specs.Prelude.{◌≡◌, ℕ, ◌+◌, Bool, true, false, ◌&&◌, List, [], ◌∷◌, ◌++◌, length}
+use Rattle.std.specs.Prelude.{◌≡◌, ℕ, Bool, true, false, ◌&&◌, List, [], ◌∷◌, ◌++◌, length}
 use Rattle.std.specs.List.{All}
 use Rattle.dispatch_report.specs.Lines.{lines_text}
 use Rattle.report_audit.specs.lines.Cut.{is_one_line}

@@ -1,4 +1,4 @@
-use Rattle.std.proofs.Common.{◌≡◌, ◌∷◌, [], ℕ, Some, refl, ◌∙◌, arith}
+use Rattle.std.proofs.Common.{refl, ◌∙◌, arith}
 use Rattle.live_dispatch.specs.Live.{rows_rounds}
 use Rattle.report_past.proofs.CloseLemmas.{good_last, has_some, position_last, state_last, text_last}
 use Rattle.report_past.specs.Told.{close_of}

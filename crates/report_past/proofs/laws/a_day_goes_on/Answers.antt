@@ -1,4 +1,4 @@
-use Rattle.std.proofs.Common.{◌≡◌, ◌++◌, ℕ, List, sym, ap, subst, ◌∙◌, append_assoc}
+use Rattle.std.proofs.Common.{◌++◌, sym, ap, subst, ◌∙◌, append_assoc}
 use Rattle.dispatch_engine.specs.lanes.Run.{IsRun, position_after_run}
 use Rattle.dispatch_report.specs.Round.{end_text}
 use Rattle.live_dispatch.specs.Live.{journals_text, rows_rounds}
