@@ -1,6 +1,56 @@
 -- A close at a desk of its own, as the close of a batch that was open.
-use Rattle.std.proofs.Common.{◌≡◌, ℕ, ◌<◌, Bool, true, false, List, [], ◌∷◌, ◌++◌, length, take, Option, None, Some, Ok, Err, ◌^◌, arith, refl, sym, ap, subst, ◌∙◌}
-use Rattle.live_dispatch.proofs.Common.{Appends, Batch, BookView, HasCut, LiveFault, OutputsView, ReportFault, Rose, lines_text, notices_from, next_position, Close, Command, Entry, Settings, HaveHeard, Roads, State, entry_text, one-text, step, desk_of, notices_in, text_of}
+use Rattle.std.proofs.Common.{
+  ◌≡◌,
+  ℕ,
+  ◌<◌,
+  Bool,
+  true,
+  false,
+  List,
+  [],
+  ◌∷◌,
+  ◌++◌,
+  length,
+  take,
+  Option,
+  None,
+  Some,
+  Ok,
+  Err,
+  ◌^◌,
+  arith,
+  refl,
+  sym,
+  ap,
+  subst,
+  ◌∙◌,
+}
+use Rattle.live_dispatch.proofs.Common.{
+  Appends,
+  Batch,
+  BookView,
+  HasCut,
+  LiveFault,
+  OutputsView,
+  ReportFault,
+  Rose,
+  lines_text,
+  notices_from,
+  next_position,
+  Close,
+  Command,
+  Entry,
+  Settings,
+  HaveHeard,
+  Roads,
+  State,
+  entry_text,
+  one-text,
+  step,
+  desk_of,
+  notices_in,
+  text_of,
+}
 use Rattle.dispatch_engine.specs.declared.lanes.locked.LockedReply.{LockedReply}
 use Rattle.dispatch_engine.specs.outcome.Outcome.{IsGoodOutcome}
 use Rattle.live_dispatch.specs.Closing.{BreaksClose, IsClosedBy, IsClosedTo, StopsClose, book_behind, closing_entry}
