@@ -23,7 +23,7 @@ sys.path.insert(0, str(shared.TOP / "python"))
 from ridepool import words  # noqa: E402
 
 # Each part lists its tests as it is imported, in this order.
-from desk_parts import calls, clients, limits, operations, page, phone, proxy, roles, shift, simulator, trouble  # noqa: E402, F401
+from desk_parts import calls, clients, limits, operations, page, phone, proxy, roles, shift, shift_page, simulator, trouble  # noqa: E402, F401
 
 
 def chosen():

@@ -2,11 +2,11 @@
 
 import { BLUE, DARK, INK, RED, drawCircle, drawCross, drawLevel, drawStop, drawText } from "./shapes.js";
 import { Ways } from "./ways.js";
-import { isAhead, isOpen, lateness, span, waitStep } from "./words.js";
+import { isAhead, isBooked, isOpen, lateness, span, waitStep } from "./words.js";
 
 const STREET = "#b4c0c9";
 const WAITS = ["#ffe9a8", "#f6b04c", "#d95f0e", "#7f2704"];
-const TWEEN = 500, REACH = 18, MOST_WAYS = 40, MANY = 60, MANYS_PAUSE = 100;
+const TWEEN = 500, REACH = 18, MOST_WAYS = 40, MANY = 60, MANYS_PAUSE = 100, CLUSTERED = 200, CELL = 48;
 
 export class DeskMap {
   // `told` has onNode(node) for a node that was chosen, onSelect(kind, number) for what was clicked.
@@ -236,13 +236,15 @@ export class DeskMap {
 
   // One mark for all who wait at a node, in the colour of the longest wait, with their number.
   drawRiders(pen) {
-    const groups = new Map();
-    for (const ride of this.rides.values()) {
-      if (!isAhead(ride)) continue;
-      if (!groups.has(ride.from)) groups.set(ride.from, []);
-      groups.get(ride.from).push(ride);
+    const now = this.now(), ahead = [...this.rides.values()].filter(it => isAhead(it) && !isBooked(it, now));
+    const clustered = ahead.length > CLUSTERED, groups = new Map();
+    for (const ride of ahead) {
+      const point = this.point(this.at.get(ride.from));
+      const key = clustered ? `${Math.floor(point.x / CELL)} ${Math.floor(point.y / CELL)}` : ride.from;
+      if (!groups.has(key)) groups.set(key, { point, rides: [] });
+      groups.get(key).rides.push(ride);
     }
-    for (const [node, group] of groups) this.drawGroup(pen, this.point(this.at.get(node)), group, groups.size > MANY);
+    for (const { point, rides } of groups.values()) this.drawGroup(pen, point, rides, groups.size > MANY && !clustered);
   }
 
   drawGroup(pen, { x, y }, group, many) {
