@@ -283,7 +283,7 @@ def the_calls_describe_themselves_without_other_places():
             said = it.gives("GET", "/openapi.json")["paths"][path.replace("/1/", "/{number}/")]["get"]["responses"]["200"]
             example = said["content"]["application/json"]["example"]
             assert it.gives("GET", path)[0].keys() == example[0].keys(), path
-        for path in ("/", "/docs", "/desk.js", "/map.js", "/shapes.js", "/lists.js", "/words.js", "/ways.js", "/calls.js",
+        for path in ("/", "/docs", "/desk.js", "/map.js", "/shapes.js", "/lists.js", "/words.js", "/known_ways.js", "/calls.js",
                      "/desk.css"):
             status, text = it.call("GET", path)
             assert status == 200 and not re.search(rb"(?<!xmlns=\")https?://(?!www\.w3\.org)", text), path

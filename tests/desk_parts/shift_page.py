@@ -17,7 +17,7 @@ def a_shift_at_the_page():
             fill(name, text)
         browser.find_element(By.ID, "ask-button").click()
         until(lambda: text_of(browser, "#chosen h2") == "Rider 1, Ada: waiting", "the rider's name")
-        for name, text in (("from", "3"), ("to", "5"), ("minutes", "90")):
+        for name, text in (("from", "3"), ("to", "5"), ("when", "+90")):
             fill(name, text)
         browser.find_element(By.ID, "ask-button").click()
         until(lambda: text_of(browser, "#count-booked") == "1", "a booked ride")

@@ -303,13 +303,16 @@ async def serve(values):
     page = {"needs_token": tokens is not None, "tiles": tiles, **page_of(values, dispatcher)}
     from ridepool.desk.access import AccessLog
     from ridepool.desk.guard import Guard, Who
+    from ridepool.desk.ways import Ways
     from ridepool.desk.web import Desk, make_app
+    from ridepool.inputs.roads import Roads
 
     # Where it has other names, a server may stand before it that others can call.
     reading = is_open(values) or "name" in values or "tokens" in values
     who = Who(tokens, reading, AccessLog(folder.path / ACCESS))
-    app = Guard(make_app(Desk(dispatcher, places, streets, page)), hosts, who, tiles_place)
-    return await run_desk(dispatcher, app, listener, clients_of(values, folder, dispatcher, places, streets))
+    ways = Ways(Roads(streets))
+    app = Guard(make_app(Desk(dispatcher, places, streets, ways, page)), hosts, who, tiles_place)
+    return await run_desk(dispatcher, app, listener, clients_of(values, folder, dispatcher, places, ways))
 
 
 def page_of(values, dispatcher):
@@ -327,10 +330,9 @@ def zone():
     return os.path.realpath("/etc/localtime").partition("/zoneinfo/")[2] or "UTC"
 
 
-def clients_of(values, folder, dispatcher, places, streets):
+def clients_of(values, folder, dispatcher, places, ways):
     """What goes on by itself: seals, and the demo's drivers and riders."""
     from ridepool.desk import demo
-    from ridepool.inputs.roads import Roads
 
     clients = [dispatcher.keep_watch()]
     if dispatcher.hook is not None:
@@ -340,7 +342,7 @@ def clients_of(values, folder, dispatcher, places, streets):
     if number(values, "drivers", 0, 1, 0):
         dwell = int(described(folder).get("dwell", 0))
         riders, seed = number(values, "riders", 0, 1, 0), number(values, "seed", 0, MOST_NUMBER, 1)
-        clients.append(demo.run(dispatcher, Roads(streets), places.at, dwell, seed, riders == 1))
+        clients.append(demo.run(dispatcher, ways, places.at, dwell, seed, riders == 1))
     return clients
 
 

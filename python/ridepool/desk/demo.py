@@ -31,10 +31,10 @@ class Driver:
 class Drivers:
     """All drivers of a day. They wait where they were reported while a batch is solved, as a plan begins there."""
 
-    def __init__(self, dispatcher, roads, at, dwell):
-        self.dispatcher, self.roads, self.at, self.dwell = dispatcher, roads, at, dwell
+    def __init__(self, dispatcher, ways, at, dwell):
+        self.dispatcher, self.ways, self.at, self.dwell = dispatcher, ways, at, dwell
         self.drivers = [Driver(it) for it in dispatcher.state.vehicles.values()]
-        self.moving, self.ways = asyncio.Lock(), {}
+        self.moving = asyncio.Lock()
         dispatcher.before_seal.append(self.report)
 
     @property
@@ -88,14 +88,11 @@ class Drivers:
 
     def drive(self, driver, goal):
         """Sets out for the next node of a shortest way. Gives whether there is one."""
-        way = self.ways.get((driver.node, goal))
+        way = self.ways.way(driver.node, goal)
         if way is None:
-            way = self.roads.way(driver.node, goal) or []
-            self.ways.update({(node, goal): way[at:] for at, node in enumerate(way[:-1])})
-        if len(way) < 2:
             return False
         driver.behind, driver.left, driver.node = driver.node, driver.second, way[1]
-        driver.second += self.roads.out[way[0]][way[1]]
+        driver.second += self.ways.roads.out[way[0]][way[1]]
         return True
 
 
@@ -119,11 +116,11 @@ class Riders:
             self.next += max(1, math.ceil(self.draws.expovariate(1 / SECONDS_BETWEEN_RIDERS)))
 
 
-async def run(dispatcher, roads, at, dwell, seed, riders=True):
+async def run(dispatcher, ways, at, dwell, seed, riders=True):
     """Lets drivers drive and riders come, until the desk is closed."""
-    clients = [Drivers(dispatcher, roads, at, dwell)]
+    clients = [Drivers(dispatcher, ways, at, dwell)]
     if riders:
-        clients.append(Riders(dispatcher, roads.out, seed))
+        clients.append(Riders(dispatcher, ways.roads.out, seed))
     while True:
         await asyncio.sleep(TICK)
         for client in clients:

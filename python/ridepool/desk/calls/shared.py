@@ -2,6 +2,7 @@
 
 from __future__ import annotations
 
+import asyncio
 import json
 from typing import Any, Dict, List, Optional, Sequence, Tuple
 
@@ -11,6 +12,7 @@ from fastapi.responses import JSONResponse, Response
 from ridepool.desk.contacts import Contacts
 from ridepool.desk.dispatcher import Dispatcher
 from ridepool.desk.mistakes import LastEntered
+from ridepool.desk.ways import Ways
 from ridepool.inputs.roads import Places
 from ridepool.sessions.state import Ride, State
 
@@ -37,11 +39,13 @@ TEXTS = {
 
 
 class Desk:
-    """The calls over a dispatcher, the places of its nodes and its streets. `page` is what the page has to know."""
+    """The calls over a dispatcher, the places of its nodes, its streets and the ways over them. `page` is what the page has
+    to know."""
 
-    def __init__(self, dispatcher: Dispatcher, places: Places, streets: List[Sequence[int]], page: Dict[str, Any]) -> None:
-        self.dispatcher, self.places, self.streets = dispatcher, places, streets
-        self.entered, self.page = LastEntered(), page
+    def __init__(self, dispatcher: Dispatcher, places: Places, streets: List[Sequence[int]], ways: Ways,
+                 page: Dict[str, Any]) -> None:
+        self.dispatcher, self.places, self.streets, self.ways = dispatcher, places, streets, ways
+        self.entered, self.page, self.searching = LastEntered(), page, asyncio.Lock()
         self.network_text: Optional[bytes] = None
 
     @property

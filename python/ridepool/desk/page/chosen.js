@@ -2,7 +2,7 @@
 // and never while it is pressed; the times in it go on without that.
 
 import { button, make } from "./make.js";
-import { dayTime, due, isAhead, isOpen, persons } from "./words.js";
+import { clockTime, due, isAhead, isBooked, isOpen, persons, stateWord } from "./words.js";
 
 export class ChosenBox {
   // `desk` has now(), select(kind, number), send(method, path, body, done) and contact(ride); `drives` is whether drivers
@@ -16,11 +16,11 @@ export class ChosenBox {
   show(kind, item) {
     this.element.hidden = !item;
     if (!item) return;
-    const key = JSON.stringify([kind, { ...item, place: null, late: null }, isOverdue(item, this.desk.now())]);
+    const now = this.desk.now(), key = JSON.stringify([kind, { ...item, place: null, late: null }, isOverdue(item, now), isBooked(item, now)]);
     if (this.key !== key && !this.pressed) this.build(key, kind, item);
     for (const [element, text] of this.texts) {
-      const now = text();
-      if (element.textContent !== now) element.textContent = now;
+      const said = text();
+      if (element.textContent !== said) element.textContent = said;
     }
   }
 
@@ -45,12 +45,11 @@ export class ChosenBox {
 
   rideParts(ride) {
     const { now, select, send, contact } = this.desk, who = ride.who ? `, ${ride.who}` : "";
-    const state = ride.left_out && isAhead(ride) ? "left out of the last plan" : ride.state;
-    const parts = [this.heading(`Rider ${ride.ride}${who}: ${state}`)];
-    parts.push(make("p", `${persons(ride.persons)} from ${ride.from} to ${ride.to}, for ${dayTime(ride.time)}.`));
+    const state = stateWord(ride, now()), parts = [this.heading(`Rider ${ride.ride}${who}: ${state}${state === "left out" ? " of the last plan" : ""}`)];
+    parts.push(make("p", `${persons(ride.persons)} from node ${ride.from} to node ${ride.to}, not before ${clockTime(ride.time)}.`));
     if (ride.state === "promised") parts.push(this.live("p", () => `Vehicle ${ride.vehicle} ${ride.pickup_second < now() ? "is" : "comes"} ${due(ride.pickup_second, now())}.`));
-    if (ride.state === "aboard") parts.push(make("p", `Aboard vehicle ${ride.vehicle} since ${dayTime(ride.pickup_second)}.`));
-    if (isOpen(ride) && ride.drop_off_second !== null) parts.push(this.live("p", () => `Arrival ${due(ride.drop_off_second, now())}.`));
+    if (ride.state === "aboard") parts.push(make("p", `Aboard vehicle ${ride.vehicle} since ${clockTime(ride.pickup_second)}.`));
+    if (isOpen(ride) && ride.drop_off_second !== null) parts.push(this.live("p", () => `Planned arrival ${due(ride.drop_off_second, now())}.`));
     const buttons = make("div");
     buttons.className = "buttons";
     if (isOpen(ride) && ride.vehicle !== null) buttons.append(button(`Show vehicle ${ride.vehicle}`, () => select("vehicle", ride.vehicle)));
@@ -59,9 +58,10 @@ export class ChosenBox {
     return [...parts, buttons];
   }
 
-  // The first press asks, the second cancels.
+  // The first press asks, the second cancels. A double click is one press.
   cancel(ride) {
-    const element = button("Cancel this ride", () => {
+    const element = button("Cancel this ride", event => {
+      if (event.detail > 1) return null;
       if (element.dataset.asked) return this.desk.send("DELETE", `rides/${ride.ride}`, null, () => `Ride ${ride.ride} is cancelled.`);
       element.dataset.asked = "yes";
       element.textContent = "Really cancel it";
@@ -73,7 +73,7 @@ export class ChosenBox {
 
   vehicleParts(vehicle) {
     const { now } = this.desk, parts = [this.heading(`Vehicle ${vehicle.vehicle}: ${vehicle.persons} of ${vehicle.max_capacity} seats taken`)];
-    parts.push(make("p", vehicle.out ? "Out of service: no plan uses it." : `Last seen at node ${vehicle.node}, free from ${dayTime(vehicle.second)}.`));
+    parts.push(make("p", vehicle.out ? "Out of service: no plan uses it." : `At node ${vehicle.node} at ${clockTime(vehicle.second)}, as was last entered.`));
     const list = make("ol");
     for (const stop of vehicle.stops) {
       const text = `${stop.kind === "pick" ? "▲ pick up" : "▼ drop off"} rider ${stop.ride} at node ${stop.node}, `;
@@ -94,7 +94,7 @@ export class ChosenBox {
       buttons.append(button(`Rider ${next.ride} ${done}`, () => send("POST", `${path}/${call}`, { ride: next.ride }, () => `Rider ${next.ride} ${done}.`)));
     }
     buttons.append(button("The last entry was a mistake", () => send("POST", `${path}/mistake`, null, it => `Vehicle ${vehicle.vehicle} is back at node ${it.node}.`)));
-    if (vehicle.out) buttons.append(button("Into service again", () => send("DELETE", `${path}/break`, null, it => `Vehicle ${vehicle.vehicle} is in service from ${dayTime(it.from)} on.`)));
+    if (vehicle.out) buttons.append(button("Into service again", () => send("DELETE", `${path}/break`, null, it => `Vehicle ${vehicle.vehicle} is in service from ${clockTime(it.from)} on.`)));
     else buttons.append(button("Out of service", () => send("POST", `${path}/break`, null, it => `Vehicle ${vehicle.vehicle} is out of service.${it.moved.length ? ` The next plan moves riders ${it.moved.join(", ")}.` : ""}`)));
     return buttons;
   }

@@ -7,8 +7,11 @@ import { ChosenBox } from "./chosen.js";
 import { DayPanel } from "./day.js";
 import { Events } from "./events.js";
 import { byId, make, write } from "./make.js";
+import { KnownWays } from "./known_ways.js";
+import { planRow } from "./plans.js";
 import { Search } from "./search.js";
-import { clockTime, isAhead, isBooked, isOpen, lateness, rideWords, setDay, span, troubleKey, troubleWords, vehicleWords, waitWords } from "./words.js";
+import { clockTime, clockTitle, isAhead, isBooked, isOpen, lateness, rideWords, setDay, stateWord, troubleKey, troubleWords, vehicleWords,
+  waitWords, wantedSecond } from "./words.js";
 
 const LOST_AFTER = 8000, SHOWN_BATCHES = 20, SHOWN_OVER = 100, KEPT_OVER = 200;
 const rides = new Map(), vehicles = new Map();
@@ -216,11 +219,17 @@ const VEHICLES = {
   all: () => true, late: it => lateness(it, now()) > 0, free: it => !it.stops.length && !it.out, riders: it => it.persons > 0, out: it => it.out,
 };
 
+// What stands in place of an empty list of riders.
+function nobody() {
+  return byId("filter-rides").value === "all" ? "Nobody has asked yet." : "No ride is of this kind now.";
+}
+
 function drawList() {
   lists.trouble.show(troubles.trouble.map(it => [troubleKey(it), it]));
   if (panel === "rides") {
     const all = [...rides.values()], over = all.filter(it => !isOpen(it)).sort((a, b) => b.ride - a.ride);
     const open = all.filter(isOpen).sort((a, b) => isBooked(a, now()) - isBooked(b, now()) || (b.left_out && isAhead(b)) - (a.left_out && isAhead(a)) || RANKS[a.state] - RANKS[b.state] || a.time - b.time || a.ride - b.ride);
+    document.querySelector("#rides .empty").textContent = nobody();
     lists.rides.show([...open, ...over.slice(0, SHOWN_OVER)].filter(RIDES[byId("filter-rides").value]).map(it => [it.ride, it]));
   } else if (panel === "vehicles") {
     lists.vehicles.show([...vehicles.values()].filter(VEHICLES[byId("filter-vehicles").value]).sort((a, b) => a.vehicle - b.vehicle).map(it => [it.vehicle, it]));
@@ -228,17 +237,9 @@ function drawList() {
 }
 
 function drawBatches() {
-  const rows = batches.map(batch => {
-    const cells = batch.overflow ? [batch.batch, "nothing planned: too many pairs", "", batch.expired.length, "", "", "", "", "", ""]
-      : [batch.batch, batch.served, batch.left_out.length, batch.expired.length, batch.lapsed.length, batch.late.length, batch.mean_wait === null ? "–" : span(batch.mean_wait),
-        batch.worst_wait === null ? "–" : span(batch.worst_wait), batch.gap, batch.seconds === undefined ? "–" : `${batch.seconds.toFixed(2)} s`];
-    const row = document.createElement("tr");
-    for (const cell of cells) row.append(Object.assign(document.createElement("td"), { textContent: cell }));
-    return row;
-  });
   const table = document.querySelector("#batches table");
-  table.classList.toggle("some", rows.length > 0);
-  table.tBodies[0].replaceChildren(...rows);
+  table.classList.toggle("some", batches.length > 0);
+  table.tBodies[0].replaceChildren(...batches.map(planRow));
 }
 
 // --- what is chosen -------------------------------------------------------------------------------------------
@@ -249,9 +250,15 @@ function select(kind, number) {
   lists.rides.choose(kind === "ride" ? number : null);
   lists.vehicles.choose(kind === "vehicle" ? number : null);
   const ride = kind === "ride" && rides.get(number), vehicle = kind === "vehicle" && vehicles.get(number);
+  drawChosen();
   if (ride && isOpen(ride)) map.follow(map.at.get(ride.from));
   if (vehicle) map.follow(vehicle.place ? vehicle.place.slice(0, 2) : map.at.get(vehicle.node));
-  drawChosen();
+}
+
+// How much of the map's lower edge the box of what is chosen covers, in pixels.
+function covered() {
+  if (byId("chosen").hidden) return 0;
+  return Math.max(0, byId("map").getBoundingClientRect().bottom - byId("chosen").getBoundingClientRect().top);
 }
 
 function drawChosen() {
@@ -334,13 +341,13 @@ async function askRide(event) {
   const unknown = [from, to].find(node => !map.at.has(node));
   if (unknown !== undefined) return say(`There is no node ${unknown} on the map.`, true);
   if (from === to) return say("The ride begins and ends at the same node.", true);
-  const body = { from, to, persons: Number(byId("persons").value) }, minutes = Number(byId("minutes").value);
-  if (minutes > 0) body.time = Math.floor(now()) + 60 * minutes;
+  const body = { from, to, persons: Number(byId("persons").value) }, wanted = wantedSecond(byId("when").value.trim(), now());
+  if (wanted !== null) body.time = wanted;
   if (byId("who").value.trim()) body.who = byId("who").value.trim();
-  const said = it => minutes > 0 ? `Rider ${it.ride} is booked for ${clockTime(body.time)}.` : `Rider ${it.ride} waits for the next plan.`;
+  const said = it => wanted !== null ? `Rider ${it.ride} is booked for ${clockTime(body.time)}.` : `Rider ${it.ride} waits for the next plan.`;
   const answer = await send("POST", "rides", body, said);
   if (!answer) return;
-  for (const name of ["from", "to", "minutes", "who"]) byId(name).value = "";
+  for (const name of ["from", "to", "when", "who"]) byId(name).value = "";
   showEnds();
   pick(false);
   showPanel("rides");
@@ -447,11 +454,12 @@ async function begin() {
   }
   setDay(network);
   for (const it of document.querySelectorAll(".wait-words")) it.textContent = waitWords(Number(it.dataset.step));
-  map = new DeskMap(network, { onNode: picked, onSelect: select });
+  byId("clock").title = clockTitle();
+  map = new DeskMap(network, { onNode: picked, onSelect: select, covered }, new KnownWays(ask, () => map.change()));
   Object.assign(map, { vehicles, rides, now });
   box = new ChosenBox(byId("chosen"), { now, select, send, contact }, network.drivers);
   day = new DayPanel(ask, save);
-  new Search(ask, openFound);
+  new Search(ask, openFound, it => stateWord(rides.get(it.ride) || it, now()));
   for (const name of ["rides", "vehicles"]) byId(`filter-${name}`).addEventListener("change", drawList);
   byId("contact").querySelector("form").addEventListener("submit", keepContact);
   byId("token-field").hidden = !network.needs_token;

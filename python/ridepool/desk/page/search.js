@@ -5,9 +5,10 @@ import { byId, make } from "./make.js";
 const PAUSE = 250;
 
 export class Search {
-  // `ask(path)` gives the desk's answer, or null; `open(kind, number)` shows what was found.
-  constructor(ask, open) {
-    Object.assign(this, { ask, open, timer: null, turn: 0 });
+  // `ask(path)` gives the desk's answer, or null; `open(kind, number)` shows what was found; `state(ride)` is what a found
+  // ride's state is called.
+  constructor(ask, open, state) {
+    Object.assign(this, { ask, open, state, timer: null, turn: 0 });
     byId("search").addEventListener("input", () => {
       clearTimeout(this.timer);
       this.timer = setTimeout(() => this.run(), PAUSE);
@@ -35,7 +36,7 @@ export class Search {
     const found = text ? await this.ask(`search?q=${encodeURIComponent(text)}`) : { rides: [], vehicles: [], places: [] };
     if (turn !== this.turn || !found) return;
     const rows = [
-      ...found.rides.map(it => ["ride", it.ride, `Rider ${it.ride}${it.who ? `, ${it.who}` : ""}: ${it.state}`]),
+      ...found.rides.map(it => ["ride", it.ride, `Rider ${it.ride}${it.who ? `, ${it.who}` : ""}: ${this.state(it)}`]),
       ...found.vehicles.map(it => ["vehicle", it, `Vehicle ${it}`]),
       ...found.places.map(it => ["place", it.node, `${it.name}, node ${it.node}`]),
     ];

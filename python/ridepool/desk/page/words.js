@@ -13,6 +13,7 @@ export function isOpen(ride) {
 }
 
 // What the page knows of its day: the longest wait, the moment of second 0, and the desk's zone.
+const DAY = 86400;
 let longest = 420, began = null, zone = "UTC";
 
 export function setDay(network) {
@@ -50,7 +51,20 @@ export function clockTime(second) {
   return new Date((began + second) * 1000).toLocaleTimeString("en-GB", { timeZone: zone });
 }
 
-export const dayTime = clockTime;
+// Which time that is.
+export function clockTitle() {
+  return began === null ? "Time of the day's book, which runs at another speed" : `Time of day in ${zone}`;
+}
+
+// The second of the book for which a ride is asked: at the next time such as 15:30, or in minutes such as +20; null where
+// the text is empty.
+export function wantedSecond(text, now) {
+  if (!text) return null;
+  const start = Math.floor(now);
+  if (text.startsWith("+")) return start + 60 * Number(text.slice(1));
+  const [hours, minutes] = text.split(":").map(Number), [h, m, s] = clockTime(start).split(":").map(Number);
+  return start + (((hours - h) * 3600 + (minutes - m) * 60 - s) % DAY + DAY) % DAY;
+}
 
 // How long something takes, as minutes:seconds or hours:minutes:seconds.
 export function span(seconds) {
@@ -76,7 +90,7 @@ export function due(second, now) {
 // The seconds by which a vehicle's next stop is overdue; 0 where it isn't.
 export function lateness(vehicle, now) {
   const next = vehicle.stops[0];
-  return next && next.second !== null ? Math.max(0, now - next.second) : 0;
+  return next && next.second !== null ? Math.max(0, Math.floor(now - next.second)) : 0;
 }
 
 // The row of a trouble in its list, at a second of the book.
@@ -92,10 +106,15 @@ export function troubleKey(it) {
   return [it.kind, it.ride, it.vehicle, it.batch].join(" ");
 }
 
+// What a ride's state is called.
+export function stateWord(ride, now) {
+  return isBooked(ride, now) ? "booked" : isAhead(ride) && ride.left_out ? "left out" : ride.state;
+}
+
 // The row of a ride in its list, at a second of the book.
 export function rideWords(ride, now) {
   const waits = isAhead(ride), booked = isBooked(ride, now), place = `${ride.from} → ${ride.to}${ride.who ? `, ${ride.who}` : ""}`;
-  const state = booked ? "booked" : waits && ride.left_out ? "left out" : ride.state;
+  const state = stateWord(ride, now);
   const when = booked ? clockTime(ride.time) : ride.state === "promised" ? due(ride.pickup_second, now)
     : ride.state === "waiting" ? `waits ${span(now - ride.time)}`
     : ride.state === "aboard" && ride.drop_off_second !== null ? `out ${due(ride.drop_off_second, now)}` : "";
