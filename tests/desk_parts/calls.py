@@ -267,6 +267,16 @@ def events_tell_the_state_then_each_reply_and_plan():
 
 
 @test
+def ways_come_of_the_desk():
+    with desk(*inputs(LINE)) as it:
+        assert it.gives("GET", "/ways?pairs=1-4,3-3,4-2,2-4") == {"ways": [[1, 2, 3, 4], [3], [4, 3, 2], [2, 3, 4]]}
+        for bad in ("", "1", "1-", "1-9", "1-2,", "a-b", ",".join(101 * ["1-2"])):
+            status, answer = it.call("GET", f"/ways?pairs={bad}")
+            assert status == 422 and "pairs" in answer["text"], (bad, status, answer)
+        assert it.call("GET", "/ways")[0] == 422
+
+
+@test
 def the_calls_describe_themselves_without_other_places():
     with desk(*inputs(LINE)) as it:
         paths = set(it.gives("GET", "/openapi.json")["paths"])
@@ -275,7 +285,7 @@ def the_calls_describe_themselves_without_other_places():
                   "/vehicles/{number}/mistake", "/trouble", "/batches", "/batches/{number}", "/seal", "/events", "/health",
                   "/network", "/me", "/metrics", "/rides/{number}/contact", "/rides/{number}/trip",
                   "/vehicles/{number}/trip", "/vehicles/{number}/noshow", "/vehicles/{number}/break", "/search", "/totals",
-                  "/rides.csv", "/batches.csv"}
+                  "/rides.csv", "/batches.csv", "/ways"}
         assert paths == wanted, paths ^ wanted
         it.gives("POST", "/rides", {"from": 2, "to": 4})
         it.plan()

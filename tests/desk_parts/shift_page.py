@@ -1,12 +1,21 @@
 """Tests of what a shift needs of the page: names, booked rides, search, breaks, totals, a box that stays, many tabs."""
 
+import contextlib
+import datetime
+import os
+import pathlib
+import tempfile
+
 from desk_parts.page import fits, keep_picture, opened, page, text_of
 from desk_parts.shared import LINE, LONG, desk, inputs, test, until
+
+TOKYO = datetime.timezone(datetime.timedelta(hours=9))
 
 
 @test
 def a_shift_at_the_page():
     with desk(*inputs(LINE), *LONG) as it, page(it, 1280, 800) as browser:
+        from selenium.webdriver.common.action_chains import ActionChains
         from selenium.webdriver.common.by import By
         from selenium.webdriver.common.keys import Keys
 
@@ -21,12 +30,15 @@ def a_shift_at_the_page():
             fill(name, text)
         browser.find_element(By.ID, "ask-button").click()
         until(lambda: text_of(browser, "#count-booked") == "1", "a booked ride")
-        assert text_of(browser, "#count-waiting") == "1" and "booked for" in text_of(browser, "#message")
+        until(lambda: text_of(browser, "#count-waiting") == "1", "one waits")
+        until(lambda: "booked for" in text_of(browser, "#message"), "what is said of the booked ride")
         assert it.gives("GET", "/rides/2")["time"] > it.second() + 3600
-        browser.execute_script("document.getElementById('filter-rides').value = 'booked';"
-                               "document.getElementById('filter-rides').dispatchEvent(new Event('change'))")
-        until(lambda: browser.execute_script("return document.querySelectorAll('#rides .list li').length") == 1, "one row")
-        assert "booked, 3 → 5" in text_of(browser, "#rides .list li")
+        choose(browser, "filter-rides", "booked")
+        until(lambda: count_of(browser, "#rides .list li") == 1, "one row")
+        until(lambda: "booked, 3 → 5" in text_of(browser, "#rides .list li"), "the booked ride's row")
+        choose(browser, "filter-rides", "aboard")
+        until(lambda: text_of(browser, "#rides .empty") == "No ride is of this kind now.", "that there is none")
+        choose(browser, "filter-rides", "all")
         fill("search", "ada")
         until(lambda: "Rider 1, Ada: waiting" in text_of(browser, "#found li"), "Ada is found")
         fill("search", Keys.ENTER)
@@ -36,7 +48,8 @@ def a_shift_at_the_page():
         fill("contact-phone", "+43 1 2" + Keys.ENTER)
         until(lambda: it.gives("GET", "/rides/1/contact") == {"who": "Ada", "phone": "+43 1 2", "note": None}, "the telephone")
         keep_picture(browser, "shift-1280")
-        button(browser, "Cancel this ride").click()
+        ActionChains(browser).double_click(button(browser, "Cancel this ride")).perform()
+        button(browser, "Really cancel it")
         assert it.gives("GET", "/rides/1")["state"] == "waiting"
         button(browser, "Really cancel it").click()
         until(lambda: "cancelled" in text_of(browser, "#chosen h2"), "the ride is cancelled")
@@ -51,6 +64,17 @@ def a_shift_at_the_page():
         assert it.gives("GET", "/vehicles/1")["out"] is True
         button(browser, "Into service again").click()
         until(lambda: it.gives("GET", "/vehicles/1")["out"] is False, "the break is over")
+
+
+def choose(browser, name, value):
+    """Chooses a value of a list of them."""
+    browser.execute_script("const it = document.getElementById(arguments[0]); it.value = arguments[1];"
+                           "it.dispatchEvent(new Event('change'))", name, value)
+
+
+def count_of(browser, selector):
+    """How many elements there are of a selector."""
+    return browser.execute_script("return document.querySelectorAll(arguments[0]).length", selector)
 
 
 def button(browser, text):
@@ -94,3 +118,74 @@ def ten_tabs_follow_one_stream():
         browser.switch_to.window(tabs[0])
         it.gives("POST", "/rides", {"from": 2, "to": 4})
         until(lambda: text_of(browser, "#count-waiting") == "2", "the tab that is left goes on")
+
+
+@test
+def times_are_those_of_the_desks_zone():
+    with desk_in("Asia/Tokyo") as it, page(it, 1280, 800) as browser:
+        until(lambda: shown_hour(browser) in near_hours(), "the hour in Tokyo")
+        assert "Asia/Tokyo" in browser.find_element("id", "clock").get_attribute("title")
+        wanted = datetime.datetime.now(TOKYO) + datetime.timedelta(hours=2)
+        for name, text in (("from", "2"), ("to", "4"), ("when", wanted.strftime("%H:%M"))):
+            browser.find_element("id", name).send_keys(text)
+        browser.find_element("id", "ask-button").click()
+        until(lambda: f"booked for {wanted:%H:%M}:00" in text_of(browser, "#message"), "the time of day")
+        until(lambda: f"not before {wanted:%H:%M}:00" in text_of(browser, "#chosen"), "the time of day in the box")
+        until(lambda: text_of(browser, "#rides .when") == f"{wanted:%H:%M}:00", "the time of day in the list")
+
+
+@contextlib.contextmanager
+def desk_in(zone):
+    """A desk in a time zone, which the browser isn't in."""
+    before = os.environ.get("TZ")
+    os.environ["TZ"] = zone
+    with contextlib.ExitStack() as stack:
+        try:
+            it = stack.enter_context(desk(*inputs(LINE), *LONG))
+        finally:
+            os.environ.pop("TZ")
+            if before is not None:
+                os.environ["TZ"] = before
+        yield it
+
+
+def shown_hour(browser):
+    """The hour of the page's clock."""
+    return text_of(browser, "#clock").split(":")[0]
+
+
+def near_hours():
+    """The hour in Tokyo, and that of a minute ago."""
+    now = datetime.datetime.now(TOKYO)
+    return {f"{now - datetime.timedelta(minutes=it):%H}" for it in (0, 1)}
+
+
+@test
+def the_day_is_shown_and_saved():
+    with tempfile.TemporaryDirectory() as folder, desk(*inputs(LINE), "wait=700", "delay=7200") as it:
+        for origin in (2, 3):
+            it.gives("POST", "/rides", {"from": origin, "to": 5})
+            it.plan()
+        with page(it, 1280, 800) as browser:
+            said = "return [...document.querySelectorAll('.wait-words')].map(it => it.textContent)"
+            wanted = ["waits less than 1:40", "1:40 to 5:00", "5:00 to 8:20", "8:20 or more"]
+            until(lambda: browser.execute_script(said) == wanted, "colours by the day's longest wait")
+            browser.execute_cdp_cmd("Browser.setDownloadBehavior", {"behavior": "allow", "downloadPath": folder})
+            browser.find_element("id", "tab-day").click()
+            until(lambda: "half" in text_of(browser, "#day-waits"), "waits by quantile")
+            until(lambda: count_of(browser, "#day-chart polyline") == 2, "the picture of two plans")
+            fits(browser)
+            browser.execute_script("document.querySelectorAll('#day-tables button').forEach(it => it.click())")
+            for name, lines in (("rides.csv", 3), ("batches.csv", 3)):
+                path = pathlib.Path(folder, name)
+                until(lambda: path.exists() and path.read_text().count("\n") == lines, f"{name} is saved")
+
+
+@test
+def a_vehicles_way_is_the_desks():
+    with desk(*inputs(LINE), *LONG) as it:
+        it.gives("POST", "/rides", {"from": 2, "to": 4})
+        it.plan()
+        with page(it, 1280, 800) as browser:
+            asked = "return performance.getEntriesByType('resource').filter(it => it.name.includes('/ways?pairs=')).length"
+            until(lambda: browser.execute_script(asked) >= 1, "the page asks for ways")
