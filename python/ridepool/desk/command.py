@@ -186,6 +186,14 @@ def is_open(values):
     return values.get("host", LOOPBACK[0]) not in LOOPBACK
 
 
+def names_of(values):
+    """Further names under which the desk may be called."""
+    names = [it for it in values.get("name", "").split(",") if it]
+    if any("*" in it for it in names):
+        raise Fault(f"name={values['name']}: each name has to stand there in full")
+    return names
+
+
 def hosts_of(host, port, names):
     """The names under which the desk may be called, with the port."""
     hosts = {*LOOPBACK, host, *names}
@@ -193,6 +201,12 @@ def hosts_of(host, port, names):
         hosts |= {socket.gethostname(), socket.getfqdn()}
     named = {f"[{it}]" if ":" in it else it for it in hosts}
     return {f"{it}:{port}" for it in named} | (named if port in (80, 443) else set()) | set(names)
+
+
+def trusted(hosts):
+    """The same without their ports, as Starlette cuts a call's host at its first colon. Of an address of IPv6 a bracket is
+    left; a browser takes such an address from no server of names, so nobody can make it lead here."""
+    return sorted({it.split(":")[0].lower() for it in hosts})
 
 
 def bound(host, port):
@@ -299,8 +313,10 @@ async def serve(values):
     except (Fault, OSError):
         folder.forget_unbegun()
         raise
-    hosts = hosts_of(host, port, [it for it in values.get("name", "").split(",") if it])
+    hosts = hosts_of(host, port, names_of(values))
     page = {"needs_token": tokens is not None, "tiles": tiles, **page_of(values, dispatcher)}
+    from starlette.middleware.trustedhost import TrustedHostMiddleware
+
     from ridepool.desk.access import AccessLog
     from ridepool.desk.guard import Guard, Who
     from ridepool.desk.ways import Ways
@@ -311,7 +327,8 @@ async def serve(values):
     reading = is_open(values) or "name" in values or "tokens" in values
     who = Who(tokens, reading, AccessLog(folder.path / ACCESS))
     ways = Ways(Roads(streets))
-    app = Guard(make_app(Desk(dispatcher, places, streets, ways, page)), hosts, who, tiles_place)
+    guard = Guard(make_app(Desk(dispatcher, places, streets, ways, page)), hosts, who, tiles_place)
+    app = TrustedHostMiddleware(guard, trusted(hosts), www_redirect=False)
     return await run_desk(dispatcher, app, listener, clients_of(values, folder, dispatcher, places, ways))
 
 

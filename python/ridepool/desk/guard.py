@@ -56,7 +56,7 @@ def policy(tiles: Optional[str]) -> bytes:
 
 
 class Guard:
-    """Wraps the desk's calls. `hosts` are the names under which it may be called."""
+    """Wraps the desk's calls. Pages of `hosts`, names with their ports, may make them."""
 
     def __init__(self, app: App, hosts: Collection[str], who: Who, tiles: Optional[str] = None) -> None:
         self.app, self.hosts, self.who, self.once = app, {it.lower() for it in hosts}, who, Once()
@@ -114,8 +114,6 @@ class Guard:
 
     def refusal(self, method: str, path: str, headers: Mapping[bytes, bytes], holder: Optional[Holder]) -> Optional[Refusal]:
         """Why a call is refused before it is read; None where it may come."""
-        if headers.get(b"host", b"").decode("latin-1").lower() not in self.hosts:
-            return Refusal(421, "this desk isn't called by that name")
         if not self.own_page(method, headers):
             return Refusal(403, "another site's page can't call this desk")
         length = headers.get(b"content-length", b"0")

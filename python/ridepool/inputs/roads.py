@@ -2,8 +2,12 @@
 
 import heapq
 import math
+from typing import Collection, Dict, Iterable, List, Optional, Sequence, Tuple
+
+from ridepool.inputs.tables import Node
 
 METRES_OF_A_DEGREE = 111_320.0
+Place = Tuple[float, float]  # latitude and longitude in degrees, or y and x in metres
 
 
 class Places:
