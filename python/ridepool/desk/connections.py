@@ -64,7 +64,8 @@ def limited(base: Type[Any], connections: Connections, seconds: float = HEADER_S
             self.transport = transport
             self.is_taken = connections.add(self, address_of(transport))
             if not self.is_taken:
-                return transport.abort()
+                transport.abort()
+                return
             super().connection_made(transport)
             self.await_headers()
 

@@ -18,34 +18,28 @@ class Live:
                  on_refused: Callable[[int, str], None], on_end: Callable[[str], None]) -> None:
         self.command = [str(program), "live", *words]
         self.on_lines, self.on_refused, self.on_end = on_lines, on_refused, on_end
-        self.started: Optional[asyncio.subprocess.Process] = None
-        self.task: "Optional[asyncio.Task[None]]" = None
+        self.child: Optional[asyncio.subprocess.Process] = None
+        self.reading: "Optional[asyncio.Task[None]]" = None
         self.told = ""
 
     @property
-    def child(self) -> asyncio.subprocess.Process:
-        """The process, once it was started."""
-        assert self.started is not None
-        return self.started
-
-    @property
-    def reading(self) -> "asyncio.Task[None]":
-        """The task that reads what it says, once it was started."""
-        assert self.task is not None
-        return self.task
+    def process(self) -> asyncio.subprocess.Process:
+        """The process, which was started."""
+        assert self.child is not None
+        return self.child
 
     @property
     def rows(self) -> asyncio.StreamWriter:
         """Where rows go in."""
-        assert self.child.stdin is not None
-        return self.child.stdin
+        assert self.process.stdin is not None
+        return self.process.stdin
 
     async def start(self) -> None:
         """Starts the program and sends it the header."""
-        self.started = await asyncio.create_subprocess_exec(
+        self.child = await asyncio.create_subprocess_exec(
             *self.command, stdin=asyncio.subprocess.PIPE, stdout=asyncio.subprocess.PIPE,
             stderr=asyncio.subprocess.PIPE, start_new_session=True)
-        self.task = asyncio.ensure_future(self.read())
+        self.reading = asyncio.ensure_future(self.read())
         self.send(HEADER + "\n")
 
     def send(self, text: str) -> None:
@@ -59,13 +53,13 @@ class Live:
         try:
             await self.read_lines()
         except (ValueError, LookupError, TypeError, AttributeError) as fault:
-            self.child.kill()
+            self.process.kill()
             self.told = f"what it wrote is no transcript ({fault})"
         except OSError as fault:
-            self.child.kill()
+            self.process.kill()
             self.told = str(fault)
         await errors
-        status = await self.child.wait()
+        status = await self.process.wait()
         self.rows.close()
         with contextlib.suppress(OSError):
             await self.rows.wait_closed()
@@ -74,17 +68,17 @@ class Live:
 
     async def read_lines(self) -> None:
         """Hands on whole lines as they come."""
-        assert self.child.stdout is not None
+        assert self.process.stdout is not None
         rest = b""
-        while chunk := await self.child.stdout.read(CHUNK):
+        while chunk := await self.process.stdout.read(CHUNK):
             *lines, rest = (rest + chunk).split(b"\n")
             if lines:
                 self.on_lines([line.decode("ascii") for line in lines])
 
     async def read_errors(self) -> None:
         """Reads standard error. A refused row is told; the last other line stands in the text of the end."""
-        assert self.child.stderr is not None
-        while line := await self.child.stderr.readline():
+        assert self.process.stderr is not None
+        while line := await self.process.stderr.readline():
             text = line.decode("ascii", "replace").strip()
             row = refused_row(text)
             if row is None:
@@ -95,19 +89,19 @@ class Live:
     def is_stopped(self) -> bool:
         """Whether a signal has stopped the program, so that it takes nothing until another lets it go on."""
         try:
-            with open(f"/proc/{self.child.pid}/stat", encoding="ascii", errors="replace") as file:
+            with open(f"/proc/{self.process.pid}/stat", encoding="ascii", errors="replace") as file:
                 return file.read().rpartition(")")[2].split()[0] in ("T", "t")
         except (OSError, IndexError):
             return False
 
     async def finish(self) -> None:
         """Ends the input, and waits until the program has written its last line."""
-        if self.started is not None:
+        if self.reading is not None:
             self.rows.close()
             await asyncio.wait([self.reading])
 
     async def kill(self) -> None:
         """Ends the program at once."""
-        if self.started is not None and self.started.returncode is None:
-            self.started.kill()
+        if self.child is not None and self.reading is not None and self.child.returncode is None:
+            self.child.kill()
             await asyncio.wait([self.reading])
