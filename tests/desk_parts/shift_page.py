@@ -64,6 +64,12 @@ def a_shift_at_the_page():
         assert it.gives("GET", "/vehicles/1")["out"] is True
         button(browser, "Into service again").click()
         until(lambda: it.gives("GET", "/vehicles/1")["out"] is False, "the break is over")
+        for name, number in (("from", "3"), ("to", "4")):
+            fill("search", Keys.CONTROL + "a")
+            fill("search", number)
+            until(lambda: f"node {number}" in text_of(browser, "#found li:last-child"), "the place is found")
+            browser.execute_script("document.querySelector('#found li:last-child').click()")
+            until(lambda: browser.find_element(By.ID, name).get_attribute("value") == number, "the place is an end of the ride")
 
 
 def choose(browser, name, value):

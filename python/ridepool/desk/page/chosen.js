@@ -46,8 +46,12 @@ export class ChosenBox {
   rideParts(ride) {
     const { now, select, send, contact } = this.desk, who = ride.who ? `, ${ride.who}` : "";
     const state = stateWord(ride, now()), parts = [this.heading(`Rider ${ride.ride}${who}: ${state}${state === "left out" ? " of the last plan" : ""}`)];
-    parts.push(make("p", `${persons(ride.persons)} from node ${ride.from} to node ${ride.to}, not before ${clockTime(ride.time)}.`));
-    if (ride.state === "promised") parts.push(this.live("p", () => `Vehicle ${ride.vehicle} ${ride.pickup_second < now() ? "is" : "comes"} ${due(ride.pickup_second, now())}.`));
+    parts.push(make("p", `${persons(ride.persons)}, ${ride.from} → ${ride.to}, not before ${clockTime(ride.time)}.`));
+    if (state === "booked") parts.push(this.live("p", () => `That is ${due(ride.time, now())}.`));
+    if (ride.state === "promised") {
+      const comes = () => `${ride.pickup_second < now() ? "is" : "comes"} ${due(ride.pickup_second, now())}`;
+      parts.push(this.live("p", () => `Vehicle ${ride.vehicle} ${comes()}.`));
+    }
     if (ride.state === "aboard") parts.push(make("p", `Aboard vehicle ${ride.vehicle} since ${clockTime(ride.pickup_second)}.`));
     if (isOpen(ride) && ride.drop_off_second !== null) parts.push(this.live("p", () => `Planned arrival ${due(ride.drop_off_second, now())}.`));
     const buttons = make("div");
@@ -88,14 +92,18 @@ export class ChosenBox {
   // What can be entered of a vehicle: its next stop, that its last entry was a mistake, and a break.
   vehicleButtons(vehicle) {
     const { send } = this.desk, [next] = vehicle.stops, buttons = make("div"), path = `vehicles/${vehicle.vehicle}`;
+    const back = it => `Vehicle ${vehicle.vehicle} is back at node ${it.node}.`;
+    const inService = it => `Vehicle ${vehicle.vehicle} is in service from ${clockTime(it.from)} on.`;
+    const moved = it => it.moved.length ? ` The next plan moves riders ${it.moved.join(", ")}.` : "";
+    const out = it => `Vehicle ${vehicle.vehicle} is out of service.${moved(it)}`;
     buttons.className = "buttons";
     if (next) {
       const call = next.kind === "pick" ? "pickup" : "dropoff", done = next.kind === "pick" ? "got in" : "got out";
       buttons.append(button(`Rider ${next.ride} ${done}`, () => send("POST", `${path}/${call}`, { ride: next.ride }, () => `Rider ${next.ride} ${done}.`)));
     }
-    buttons.append(button("The last entry was a mistake", () => send("POST", `${path}/mistake`, null, it => `Vehicle ${vehicle.vehicle} is back at node ${it.node}.`)));
-    if (vehicle.out) buttons.append(button("Into service again", () => send("DELETE", `${path}/break`, null, it => `Vehicle ${vehicle.vehicle} is in service from ${clockTime(it.from)} on.`)));
-    else buttons.append(button("Out of service", () => send("POST", `${path}/break`, null, it => `Vehicle ${vehicle.vehicle} is out of service.${it.moved.length ? ` The next plan moves riders ${it.moved.join(", ")}.` : ""}`)));
+    buttons.append(button("The last entry was a mistake", () => send("POST", `${path}/mistake`, null, back)));
+    if (vehicle.out) buttons.append(button("Into service again", () => send("DELETE", `${path}/break`, null, inService)));
+    else buttons.append(button("Out of service", () => send("POST", `${path}/break`, null, out)));
     return buttons;
   }
 }

@@ -16,9 +16,12 @@ export class DayPanel {
 
   async show() {
     const [totals, batches] = await Promise.all([this.ask("totals"), this.ask(`batches?limit=${MOST}`)]);
-    if (totals) byId("day-totals").replaceChildren(...totalRows(totals));
-    if (totals) byId("day-waits").replaceChildren(make("h3", "Waits of those delivered"), waitTable(totals));
-    if (batches) byId("day-chart").replaceChildren(make("h3", "Waits plan by plan"), ...chart(batches.filter(it => !it.overflow && it.mean_wait !== null).reverse()));
+    if (totals) {
+      byId("day-totals").replaceChildren(...totalRows(totals));
+      byId("day-waits").replaceChildren(make("h3", "Waits of those delivered"), waitTable(totals));
+    }
+    const drawn = (batches || []).filter(it => !it.overflow && it.mean_wait !== null).reverse();
+    if (batches) byId("day-chart").replaceChildren(make("h3", "Waits plan by plan"), ...chart(drawn));
   }
 }
 

@@ -10,7 +10,7 @@ import { byId, make, write } from "./make.js";
 import { KnownWays } from "./known_ways.js";
 import { planRow } from "./plans.js";
 import { Search } from "./search.js";
-import { clockTime, clockTitle, isAhead, isBooked, isOpen, lateness, rideWords, setDay, stateWord, troubleKey, troubleWords, vehicleWords,
+import { clockTime, clockTitle, due, isAhead, isBooked, isOpen, lateness, rideWords, setDay, stateWord, troubleKey, troubleWords, vehicleWords,
   waitWords, wantedSecond } from "./words.js";
 
 const LOST_AFTER = 8000, SHOWN_BATCHES = 20, SHOWN_OVER = 100, KEPT_OVER = 200;
@@ -219,6 +219,12 @@ const VEHICLES = {
   all: () => true, late: it => lateness(it, now()) > 0, free: it => !it.stops.length && !it.out, riders: it => it.persons > 0, out: it => it.out,
 };
 
+// The order of rides that aren't over: booked ones last, who was left out first, then by state and time.
+function byUrgency(a, b) {
+  const out = it => it.left_out && isAhead(it);
+  return isBooked(a, now()) - isBooked(b, now()) || out(b) - out(a) || RANKS[a.state] - RANKS[b.state] || a.time - b.time || a.ride - b.ride;
+}
+
 // What stands in place of an empty list of riders.
 function nobody() {
   return byId("filter-rides").value === "all" ? "Nobody has asked yet." : "No ride is of this kind now.";
@@ -228,11 +234,12 @@ function drawList() {
   lists.trouble.show(troubles.trouble.map(it => [troubleKey(it), it]));
   if (panel === "rides") {
     const all = [...rides.values()], over = all.filter(it => !isOpen(it)).sort((a, b) => b.ride - a.ride);
-    const open = all.filter(isOpen).sort((a, b) => isBooked(a, now()) - isBooked(b, now()) || (b.left_out && isAhead(b)) - (a.left_out && isAhead(a)) || RANKS[a.state] - RANKS[b.state] || a.time - b.time || a.ride - b.ride);
+    const open = all.filter(isOpen).sort(byUrgency);
     document.querySelector("#rides .empty").textContent = nobody();
     lists.rides.show([...open, ...over.slice(0, SHOWN_OVER)].filter(RIDES[byId("filter-rides").value]).map(it => [it.ride, it]));
   } else if (panel === "vehicles") {
-    lists.vehicles.show([...vehicles.values()].filter(VEHICLES[byId("filter-vehicles").value]).sort((a, b) => a.vehicle - b.vehicle).map(it => [it.vehicle, it]));
+    const shown = [...vehicles.values()].filter(VEHICLES[byId("filter-vehicles").value]).sort((a, b) => a.vehicle - b.vehicle);
+    lists.vehicles.show(shown.map(it => [it.vehicle, it]));
   }
 }
 
@@ -269,11 +276,11 @@ function drawChosen() {
 // What is known of a rider, in a question that can be changed.
 async function contact(number) {
   const known = await ask(`rides/${number}/contact`);
-  if (!known) return;
+  if (!known) return say("What is known of the rider couldn't be had.", true);
   for (const name of ["who", "phone", "note"]) byId(`contact-${name}`).value = known[name] || "";
   byId("contact").dataset.ride = number;
   byId("contact-title").textContent = `Who is rider ${number}?`;
-  byId("contact").showModal();
+  return byId("contact").showModal();
 }
 
 function keepContact(event) {
@@ -326,8 +333,8 @@ async function ask(path) {
 
 // Saves a table; a link alone would bring no token.
 async function save(path, name) {
-  const response = await fetch(path, { headers: bearer() });
-  if (!response.ok) return say("The table couldn't be had.", true);
+  const response = await fetch(path, { headers: bearer() }).catch(() => null);
+  if (!response || !response.ok) return say("The table couldn't be had.", true);
   const link = make("a"), address = URL.createObjectURL(await response.blob());
   Object.assign(link, { href: address, download: name });
   link.click();
@@ -344,7 +351,7 @@ async function askRide(event) {
   const body = { from, to, persons: Number(byId("persons").value) }, wanted = wantedSecond(byId("when").value.trim(), now());
   if (wanted !== null) body.time = wanted;
   if (byId("who").value.trim()) body.who = byId("who").value.trim();
-  const said = it => wanted !== null ? `Rider ${it.ride} is booked for ${clockTime(body.time)}.` : `Rider ${it.ride} waits for the next plan.`;
+  const said = it => wanted !== null ? `Rider ${it.ride} is booked for ${clockTime(body.time)}, ${due(body.time, now())}.` : `Rider ${it.ride} waits for the next plan.`;
   const answer = await send("POST", "rides", body, said);
   if (!answer) return;
   for (const name of ["from", "to", "when", "who"]) byId(name).value = "";
@@ -415,13 +422,11 @@ const showPanel = makeTabs(document.querySelector("[role=tablist]"), name => {
   if (name === "day" && day) day.show();
 });
 
-// Shows what the search has found.
+// Shows what the search has found; a place becomes an end of the ride that is asked for.
 function openFound(kind, number) {
   if (kind !== "place") return openThing(kind, number);
   map.follow(map.at.get(number));
-  byId("from").value = number;
-  showEnds();
-  return null;
+  return picked(number);
 }
 
 // Fetches the network; where a token is needed for that, the page asks for one. Gives whether it is there.

@@ -38,7 +38,7 @@ export class Search {
     const rows = [
       ...found.rides.map(it => ["ride", it.ride, `Rider ${it.ride}${it.who ? `, ${it.who}` : ""}: ${this.state(it)}`]),
       ...found.vehicles.map(it => ["vehicle", it, `Vehicle ${it}`]),
-      ...found.places.map(it => ["place", it.node, `${it.name}, node ${it.node}`]),
+      ...found.places.map(it => ["place", it.node, it.name === `node ${it.node}` ? it.name : `${it.name}, node ${it.node}`]),
     ];
     byId("found").replaceChildren(...(rows.length || !text ? rows.map(row => this.row(...row)) : [make("p", "Nothing was found.")]));
   }
