@@ -3,8 +3,8 @@
 `, K skipped` behind it where tests can't be tried here.
 
 `desk.py PROGRAM [NAME ..]` runs the tests, or those whose names, or whose files' names, are given: calls, clients, limits,
-operations, page, phone, proxy, roles, shift, simulator, trouble. What can't be tried, for want of a package, a browser or the
-word `live`, is told in a line `skipped: WHAT, since WHY`.
+operations, page, phone, proxy, roles, shift, shift_page, simulator, trouble. What can't be tried, for want of a package, a
+browser or the word `live`, is told in a line `skipped: WHAT, since WHY`.
 """
 
 import os

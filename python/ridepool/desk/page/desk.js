@@ -219,6 +219,22 @@ const VEHICLES = {
   all: () => true, late: it => lateness(it, now()) > 0, free: it => !it.stops.length && !it.out, riders: it => it.persons > 0, out: it => it.out,
 };
 
+// Whether the filters let a ride or a vehicle onto the map. Booked rides are there where they are asked for.
+function lets(kind, item) {
+  if (kind === "vehicle") return VEHICLES[byId("filter-vehicles").value](item);
+  const value = byId("filter-rides").value;
+  return value === "all" ? !isBooked(item, now()) : RIDES[value](item);
+}
+
+// Draws lists and map by the filters, and says on the map that it doesn't show all.
+function filter() {
+  const chosen = ["rides", "vehicles"].map(it => byId(`filter-${it}`)).filter(it => it.value !== "all");
+  byId("map-filter").hidden = !chosen.length;
+  write("map-filter", `Shown alone: ${chosen.map(it => it.dataset.words + it.selectedOptions[0].textContent).join("; ")}`);
+  drawList();
+  map.change();
+}
+
 // The order of rides that aren't over: booked ones last, who was left out first, then by state and time.
 function byUrgency(a, b) {
   const out = it => it.left_out && isAhead(it);
@@ -461,11 +477,11 @@ async function begin() {
   for (const it of document.querySelectorAll(".wait-words")) it.textContent = waitWords(Number(it.dataset.step));
   byId("clock").title = clockTitle();
   map = new DeskMap(network, { onNode: picked, onSelect: select, covered }, new KnownWays(ask, () => map.change()));
-  Object.assign(map, { vehicles, rides, now });
+  Object.assign(map, { vehicles, rides, now, lets });
   box = new ChosenBox(byId("chosen"), { now, select, send, contact }, network.drivers);
   day = new DayPanel(ask, save);
   new Search(ask, openFound, it => stateWord(rides.get(it.ride) || it, now()));
-  for (const name of ["rides", "vehicles"]) byId(`filter-${name}`).addEventListener("change", drawList);
+  for (const name of ["rides", "vehicles"]) byId(`filter-${name}`).addEventListener("change", filter);
   byId("contact").querySelector("form").addEventListener("submit", keepContact);
   byId("token-field").hidden = !network.needs_token;
   byId("ask").addEventListener("submit", askRide);

@@ -1,7 +1,7 @@
 // The map: streets by Leaflet, and over them a canvas with ways, stops, riders and vehicles.
 
 import { BLUE, DARK, INK, RED, drawBar, drawCircle, drawCross, drawLevel, drawStop, drawText } from "./shapes.js";
-import { isAhead, isBooked, isOpen, lateness, span, waitStep } from "./words.js";
+import { isAhead, isOpen, lateness, span, waitStep } from "./words.js";
 
 const STREET = "#b4c0c9", OUT = "#c9d1d8";
 const WAITS = ["#ffe9a8", "#f6b04c", "#d95f0e", "#7f2704"];
@@ -21,6 +21,7 @@ export class DeskMap {
     this.ends = {};
     this.picking = false;
     this.now = () => 0;
+    this.lets = () => true;  // whether the lists' filters let a ride or a vehicle onto the map
     this.make(network);
   }
 
@@ -87,11 +88,12 @@ export class DeskMap {
   nearestThing(point) {
     let best = REACH, found = null;
     for (const [number, spot] of this.shown) {
+      if (!this.isShown(this.vehicles.get(number))) continue;
       const distance = this.point(spot.place).distanceTo(point);
       if (distance < best) [best, found] = [distance, ["vehicle", number]];
     }
     for (const ride of this.rides.values()) {
-      if (!isAhead(ride)) continue;
+      if (!isAhead(ride) || !this.lets("ride", ride)) continue;
       const distance = this.point(this.at.get(ride.from)).distanceTo(point);
       if (distance < best - 2) [best, found] = [distance, ["ride", ride.ride]];
     }
@@ -166,7 +168,7 @@ export class DeskMap {
     pen.clearRect(0, 0, this.canvas.width, this.canvas.height);
     this.drawWays(pen);
     this.drawRiders(pen);
-    for (const vehicle of this.vehicles.values()) if (vehicle !== chosen) this.drawVehicle(pen, vehicle);
+    for (const vehicle of this.vehicles.values()) if (vehicle !== chosen && this.isShown(vehicle)) this.drawVehicle(pen, vehicle);
     this.drawChosenRide(pen);
     if (chosen) this.drawStops(pen, chosen);
     if (chosen) this.drawVehicle(pen, chosen);
@@ -187,6 +189,11 @@ export class DeskMap {
     return moving;
   }
 
+  // Whether a vehicle is drawn: the chosen one always is.
+  isShown(vehicle) {
+    return vehicle !== undefined && (this.lets("vehicle", vehicle) || vehicle === this.chosenVehicle());
+  }
+
   chosenVehicle() {
     if (!this.chosen) return null;
     if (this.chosen.kind === "vehicle") return this.vehicles.get(this.chosen.number);
@@ -197,7 +204,7 @@ export class DeskMap {
   drawWays(pen) {
     const chosen = this.chosenVehicle();
     if (this.vehicles.size <= MOST_WAYS) {
-      for (const vehicle of this.vehicles.values()) if (vehicle !== chosen) this.drawWay(pen, vehicle, false);
+      for (const vehicle of this.vehicles.values()) if (vehicle !== chosen && this.isShown(vehicle)) this.drawWay(pen, vehicle, false);
     }
     if (chosen) this.drawWay(pen, chosen, true);
   }
@@ -237,7 +244,7 @@ export class DeskMap {
 
   // One mark for all who wait at a node, in the colour of the longest wait, with their number.
   drawRiders(pen) {
-    const now = this.now(), ahead = [...this.rides.values()].filter(it => isAhead(it) && !isBooked(it, now));
+    const ahead = [...this.rides.values()].filter(it => isAhead(it) && this.lets("ride", it));
     const clustered = ahead.length > CLUSTERED, groups = new Map();
     for (const ride of ahead) {
       const point = this.point(this.at.get(ride.from));
