@@ -3,7 +3,7 @@
 import subprocess
 from typing import IO, Iterable, Optional, Sequence
 
-from ridepool.inputs.checks import Path
+from ridepool.inputs.tables import Path
 from ridepool.report.reader import Batch
 from ridepool.sessions.rows import HEADER, lane_of, row_of
 from ridepool.sessions.state import Change, State, Vehicle

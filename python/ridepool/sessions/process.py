@@ -4,7 +4,7 @@ import asyncio
 import contextlib
 from typing import Callable, List, Optional, Sequence
 
-from ridepool.inputs.checks import Path
+from ridepool.inputs.tables import Path
 from ridepool.sessions.rows import HEADER, refused_row
 
 CHUNK = 65_536
