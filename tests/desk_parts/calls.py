@@ -191,6 +191,7 @@ def a_token_is_asked_of_each_writing_call():
         file.write_text("short")
         fails("a token is one word of at least 16 letters", *inputs(LINE), f"token={file}")
     fails("host= needs tokens=FILE or token=FILE", *inputs(LINE), "host=0.0.0.0")
+    fails("each name has to stand there in full", *inputs(LINE), "name=*.example")
 
 
 @test

@@ -319,7 +319,7 @@ async def serve(values: Mapping[str, str]) -> int:
     host, port = values.get("host", LOOPBACK[0]), number(values, "port", 0, 65_535, 8000)
     from ridepool.desk.hook import hook_of
 
-    tokens, (tiles, tiles_place) = tokens_of(values), tiles_of(values)
+    tokens, (tiles, tiles_place), names = tokens_of(values), tiles_of(values), names_of(values)
     hook = hook_of(values.get("hook"), values.get("secret"))
     listener = bound(host, port)
     port, folder = listener.getsockname()[1], day_of(values)
@@ -330,7 +330,7 @@ async def serve(values: Mapping[str, str]) -> int:
     except (Fault, OSError):
         folder.forget_unbegun()
         raise
-    hosts = hosts_of(host, port, names_of(values))
+    hosts = hosts_of(host, port, names)
     page = {"needs_token": tokens is not None, "tiles": tiles, **page_of(values, dispatcher)}
     from starlette.middleware.trustedhost import TrustedHostMiddleware
 
@@ -429,7 +429,7 @@ async def ended(server: uvicorn.Server, listener: socket.socket, dispatcher: Dis
 
     def stop() -> None:
         if server.should_exit and dispatcher.live is not None:  # a second signal doesn't wait for a batch that is being solved
-            asyncio.ensure_future(dispatcher.live.kill())
+            dispatcher.spawn(dispatcher.live.kill())
         dispatcher.release_listeners()
         server.force_exit = server.should_exit
         server.should_exit = True

@@ -55,7 +55,7 @@ class Connections:
 
 def limited(base: Type[Any], connections: Connections, seconds: float = HEADER_SECONDS) -> Type[Any]:
     """The server's class of connections, which holds the limits, too."""
-    class Limited(base):  # type: ignore[misc]
+    class Limited(base):  # type: ignore[misc]  # a class that uvicorn chooses as it starts
         """A connection whose headers have to be whole in time."""
 
         is_taken, unfinished = False, None
