@@ -153,14 +153,16 @@ def other_sites_and_large_bodies_are_refused():
         body = json.dumps({"from": 2, "to": 4})
         plain = {"content-type": "application/json"}
         for status, headers in (
-                (421, {"host": "evil.example"}), (421, {"host": f"127.0.0.1.evil.example:{it.port}"}),
-                (421, {"host": "127.0.0.1:1"}), (403, {"origin": "http://evil.example"}), (403, {"origin": "null"}),
-                (403, {"origin": "http://127.0.0.1:1"}), (403, {"sec-fetch-site": "cross-site"}),
+                (403, {"origin": "http://evil.example"}), (403, {"origin": "null"}), (403, {"origin": "http://127.0.0.1:1"}), (403, {"sec-fetch-site": "cross-site"}),
                 (403, {"sec-fetch-site": "same-site"}), (415, {"content-type": "text/plain"}), (415, {"content-type": ""}),
                 (413, {"content-length": "65537"})):
             found = it.call("POST", "/rides", raw=body, headers={**plain, **headers})
             assert found[0] == status and found[1]["text"], (headers, found)
-        assert it.call("GET", "/rides", headers={"host": "evil.example"})[0] == 421
+        for host in ("evil.example", f"127.0.0.1.evil.example:{it.port}", f"www.localhost:{it.port}", ""):
+            for method, path in (("GET", "/rides"), ("GET", "/"), ("POST", "/seal")):
+                assert it.call(method, path, headers={"host": host})[0] == 400, (host, method, path)
+        for host in (f"localhost:{it.port}", f"[::1]:{it.port}"):
+            assert it.call("GET", "/rides", headers={"host": host})[0] == 200, host
         assert it.call("GET", "/", headers={"sec-fetch-site": "cross-site", "sec-fetch-mode": "navigate"})[0] == 200
         chunked = iter([b" " * 40_000, b" " * 40_000])
         found = it.call("POST", "/rides", raw=chunked, headers=plain)
@@ -189,6 +191,7 @@ def a_token_is_asked_of_each_writing_call():
         file.write_text("short")
         fails("a token is one word of at least 16 letters", *inputs(LINE), f"token={file}")
     fails("host= needs tokens=FILE or token=FILE", *inputs(LINE), "host=0.0.0.0")
+    fails("each name has to stand there in full", *inputs(LINE), "name=*.example")
 
 
 @test
@@ -267,6 +270,16 @@ def events_tell_the_state_then_each_reply_and_plan():
 
 
 @test
+def ways_come_of_the_desk():
+    with desk(*inputs(LINE)) as it:
+        assert it.gives("GET", "/ways?pairs=1-4,3-3,4-2,2-4") == {"ways": [[1, 2, 3, 4], [3], [4, 3, 2], [2, 3, 4]]}
+        for bad in ("", "1", "1-", "1-9", "1-2,", "a-b", ",".join(101 * ["1-2"])):
+            status, answer = it.call("GET", f"/ways?pairs={bad}")
+            assert status == 422 and "pairs" in answer["text"], (bad, status, answer)
+        assert it.call("GET", "/ways")[0] == 422
+
+
+@test
 def the_calls_describe_themselves_without_other_places():
     with desk(*inputs(LINE)) as it:
         paths = set(it.gives("GET", "/openapi.json")["paths"])
@@ -275,7 +288,7 @@ def the_calls_describe_themselves_without_other_places():
                   "/vehicles/{number}/mistake", "/trouble", "/batches", "/batches/{number}", "/seal", "/events", "/health",
                   "/network", "/me", "/metrics", "/rides/{number}/contact", "/rides/{number}/trip",
                   "/vehicles/{number}/trip", "/vehicles/{number}/noshow", "/vehicles/{number}/break", "/search", "/totals",
-                  "/rides.csv", "/batches.csv"}
+                  "/rides.csv", "/batches.csv", "/ways"}
         assert paths == wanted, paths ^ wanted
         it.gives("POST", "/rides", {"from": 2, "to": 4})
         it.plan()
@@ -283,7 +296,7 @@ def the_calls_describe_themselves_without_other_places():
             said = it.gives("GET", "/openapi.json")["paths"][path.replace("/1/", "/{number}/")]["get"]["responses"]["200"]
             example = said["content"]["application/json"]["example"]
             assert it.gives("GET", path)[0].keys() == example[0].keys(), path
-        for path in ("/", "/docs", "/desk.js", "/map.js", "/shapes.js", "/lists.js", "/words.js", "/ways.js", "/calls.js",
+        for path in ("/", "/docs", "/desk.js", "/map.js", "/shapes.js", "/lists.js", "/words.js", "/known_ways.js", "/calls.js",
                      "/desk.css"):
             status, text = it.call("GET", path)
             assert status == 200 and not re.search(rb"(?<!xmlns=\")https?://(?!www\.w3\.org)", text), path

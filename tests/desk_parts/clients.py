@@ -4,6 +4,7 @@ import concurrent.futures
 import contextlib
 import http.client
 import os
+import random
 import re
 import signal
 import socket
@@ -94,27 +95,36 @@ def fifty_clients_at_once_and_the_state_after_a_kill():
 
 
 @test
-def a_kill_between_any_two_calls_loses_nothing_answered():
+def kills_at_forty_drawn_moments_lose_nothing_answered():
+    draws = random.Random(67)
     with folder_for_days() as folder:
         answered = []
-        for turn in range(6):
+        for turn in range(40):
             with desk(*(inputs(TOWN) if turn == 0 else ()), folder=folder) as it:
-                assert [r["ride"] for r in it.gives("GET", "/rides")] == answered
+                assert sorted(r["ride"] for r in it.gives("GET", "/rides")) == answered
                 with concurrent.futures.ThreadPoolExecutor(4) as pool:
-                    calls = [pool.submit(it.call, "POST", "/rides", {"from": 1, "to": 2 + n}) for n in range(30)]
-                    for _ in zip(range(4 * turn), concurrent.futures.as_completed(calls)):
-                        pass  # the kill comes when so many are answered
+                    calls = [pool.submit(it.call, "POST", "/rides", {"from": 1, "to": 2 + n}) for n in range(20)]
+                    if turn % 2:
+                        wait_for(calls, draws.randrange(10))
+                        os.kill(it.live(), signal.SIGKILL)
+                    wait_for(calls, draws.randrange(20))
                     it.child.send_signal(signal.SIGKILL)
                     it.end()
                 for call in calls:
                     with contextlib.suppress(OSError, http.client.HTTPException):
-                        answered.append(call.result()[1]["ride"])
-                answered.sort()
-                rows = (folder / "rows.csv").read_text()
-                kept = sorted(int(line.split(",")[3]) for line in rows.splitlines()[1:])
+                        status, answer = call.result()
+                        answered += [answer["ride"]] if status == 201 else []
+                lines = re.findall(r"^\d+ \d+ submit (\d+) .* accepted$", (folder / "transcript").read_text(), re.M)
+                kept = sorted(map(int, lines))
                 assert set(answered) <= set(kept), (answered, kept)
                 answered = kept
         assert answered, "no call was answered before a kill"
+
+
+def wait_for(calls, count):
+    """Waits until so many calls are over."""
+    for _ in zip(range(count), concurrent.futures.as_completed(calls)):
+        pass
 
 
 @test

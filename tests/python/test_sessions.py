@@ -8,6 +8,8 @@ import pandas
 import pytest
 import ridepool as rp
 
+from ridepool.sessions.rows import refused_row
+
 COMMANDS = 1000
 
 
@@ -35,6 +37,16 @@ class Commands:
                   "dropoff": {"vehicle": vehicle, "rider": rider, "second": max(0, second)},
                   "seal": {"second": max(0, second)}}
         return kind, fields[kind]
+
+
+@pytest.mark.parametrize("said, row", [
+    ("ridepool: script: row 7 has another length", 7), ("ridepool: script: row 3 is too long", 3),
+    ("ridepool: script: bad number at row 7 column 3", 7), ("ridepool: script: seal outside lane 0 at row 12", 12),
+    ("ridepool: script: more than 200000 rows", None), ("ridepool: script: command at round 3 lane 2", None),
+    ("ridepool: script: row", None), ("ridepool: fleet: bad seats at row 7", None), ("ridepool: out of memory", None),
+])
+def test_which_row_is_refused(said, row):
+    assert refused_row(said) == row
 
 
 @pytest.fixture(scope="module")

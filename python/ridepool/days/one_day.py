@@ -32,7 +32,7 @@ class Task(NamedTuple):
     fleet: str
     script: str
     words: Tuple[str, ...]
-    direct: Mapping[int, int]
+    direct: Mapping[int, float]
     limit: Optional[int]
     timed: bool = False
     fleets: Tuple[str, ...] = ()

@@ -13,8 +13,11 @@ MOST_LETTERS = 200
 IS_2 = pydantic.VERSION.startswith("2.")
 
 if TYPE_CHECKING:
-    Number = Own = Persons = int
-    Latitude = Longitude = float
+    Number = int
+    Own = int
+    Persons = int
+    Latitude = float
+    Longitude = float
     Text = str
 else:
     from pydantic import confloat, conint, constr

@@ -1,5 +1,7 @@
 """A dispatcher's desk: a page with a map and calls over HTTP, around a running `ridepool live`."""
 
+from __future__ import annotations
+
 import asyncio
 import os
 import pathlib
@@ -8,11 +10,23 @@ import socket
 import sys
 import tempfile
 import time
+from typing import TYPE_CHECKING, Any, Coroutine, Dict, Iterable, List, Mapping, Optional, Sequence, Set, Tuple
 
 from ridepool import program
 from ridepool.desk import log
 from ridepool.inputs.tables import MOST_NUMBER, read_network, read_nodes, read_table, whole, FLEET
 from ridepool.words import DESK_INSTALL, Fault, fail, need, number, run_tool, split_words
+
+if TYPE_CHECKING:  # what these need may be missing until the desk is opened
+    import uvicorn
+    from starlette.types import ASGIApp
+
+    from ridepool.desk.dispatcher import Clock, Dispatcher
+    from ridepool.desk.folder import Folder
+    from ridepool.desk.tokens import Tokens
+    from ridepool.desk.ways import Ways
+    from ridepool.inputs.roads import Places
+    from ridepool.sessions.state import Vehicle
 
 USAGE = """use: %(prog)s demo [words]
      %(prog)s network=network.csv nodes=nodes.csv fleet=fleet.csv [day=FOLDER] [words]
@@ -35,11 +49,12 @@ STATUS_ENDED = 3
 FAREWELL = 1.0  # real seconds in which callers still hear why the desk ends
 MOST_LEAD = 900  # seconds that a position or a stop may lie ahead
 ACCESS = "access.log"  # in the day's folder
+Street = Tuple[int, int, int]
 LOOPBACK = ("127.0.0.1", "localhost", "::1")
 DEMO = {"every": "30", "speed": "10", "drivers": "1", "riders": "1", "wait": "420", "delay": "600"}
 
 
-def with_demo(plain, values):
+def with_demo(plain: Sequence[str], values: Dict[str, str]) -> Dict[str, str]:
     """The words of the demo, where it is asked for."""
     if not plain:
         return values
@@ -50,7 +65,7 @@ def with_demo(plain, values):
     return {**DEMO, **values, **files, "day": day}
 
 
-def description_of(values):
+def description_of(values: Mapping[str, str]) -> Dict[str, Any]:
     """What makes a day what it is, as its folder keeps it."""
     return {
         "settings": [f"{key}={values[key]}" for key in SETTINGS if key in values],
@@ -60,7 +75,7 @@ def description_of(values):
     }
 
 
-def day_of(values):
+def day_of(values: Mapping[str, str]) -> Folder:
     """The folder of the day, begun where it isn't there."""
     from ridepool.desk.folder import Folder
 
@@ -82,7 +97,7 @@ def day_of(values):
     return folder
 
 
-def hold_settings(folder, values):
+def hold_settings(folder: Folder, values: Mapping[str, str]) -> None:
     """A day goes on with its own settings but for those on which no reply depends: they are taken as given."""
     before = folder.description
     now = {**before, **description_of({**described(folder), **values}), "began": before["began"]}
@@ -93,36 +108,37 @@ def hold_settings(folder, values):
         folder.describe(now)
 
 
-def fixed(description):
+def fixed(description: Mapping[str, Any]) -> List[str]:
     """The words of a description that can't change."""
     return sorted(word for word in words_of(description) if word.split("=")[0] in FIXED)
 
 
-def words_of(description):
+def words_of(description: Mapping[str, Any]) -> List[str]:
     """The words that a description was made of."""
     return [*description["settings"], f"every={description['every']}", f"speed={description['speed']}"]
 
 
-def described(folder):
+def described(folder: Folder) -> Dict[str, str]:
     """The same by key."""
     return dict(word.split("=", 1) for word in words_of(folder.description))
 
 
-def hold_inputs(folder, given, values):
+def hold_inputs(folder: Folder, given: Iterable[str], values: Mapping[str, str]) -> None:
     """A day goes on with its own inputs: those that are given again must be the same."""
     for name in given:
         if pathlib.Path(values[name]).read_bytes() != folder.input(name).read_bytes():
             raise Fault(f"{values[name]}: the day in {folder.path} has another {name}")
 
 
-def fleet_of(path):
+def fleet_of(path: pathlib.Path) -> List[Vehicle]:
     """The vehicles of a fleet, each where it begins."""
     from ridepool.sessions.state import Vehicle
 
-    return [Vehicle(*(whole(path, count, text) for text in row)) for count, row in read_table(path, FLEET)]
+    rows = ([whole(path, count, text) for text in row] for count, row in read_table(path, FLEET))
+    return [Vehicle(vehicle, seats, node, second) for vehicle, seats, node, second in rows]
 
 
-def map_of(folder, far):
+def map_of(folder: Folder, far: int) -> Tuple[Places, List[Street]]:
     """The places of the nodes, and the streets."""
     from ridepool.inputs.roads import Places
 
@@ -136,7 +152,7 @@ def map_of(folder, far):
     return places, streets
 
 
-def last_second(kept, now):
+def last_second(kept: Sequence[str], now: float) -> int:
     """The second that the day's clock had reached, by its transcript. What vehicles did may lie a little ahead of the
     clock, and what is told of those out of service by the longest wait; where it is further ahead, the clock was there, too."""
     from ridepool.sessions.rows import entries_of
@@ -149,7 +165,7 @@ def last_second(kept, now):
     return max(sealed, entered) if entered > max(sealed, now) + lead else sealed
 
 
-def clock_of(folder, kept):
+def clock_of(folder: Folder, kept: Sequence[str]) -> Clock:
     """The day's clock, which never goes back behind the transcript. One that runs at another speed than the world's
     goes on where the transcript ends."""
     from ridepool.desk.dispatcher import Clock
@@ -165,7 +181,7 @@ def clock_of(folder, kept):
     return clock
 
 
-def tokens_of(values):
+def tokens_of(values: Mapping[str, str]) -> Optional[Tokens]:
     """The tokens that calls need; required where others than this machine can call."""
     from ridepool.desk.tokens import LEAST_LETTERS, Tokens
 
@@ -181,12 +197,20 @@ def tokens_of(values):
     return Tokens(token, pathlib.Path(values["tokens"]) if "tokens" in values else None)
 
 
-def is_open(values):
+def is_open(values: Mapping[str, str]) -> bool:
     """Whether others than this machine can call."""
     return values.get("host", LOOPBACK[0]) not in LOOPBACK
 
 
-def hosts_of(host, port, names):
+def names_of(values: Mapping[str, str]) -> List[str]:
+    """Further names under which the desk may be called."""
+    names = [it for it in values.get("name", "").split(",") if it]
+    if any("*" in it for it in names):
+        raise Fault(f"name={values['name']}: each name has to stand there in full")
+    return names
+
+
+def hosts_of(host: str, port: int, names: Iterable[str]) -> Set[str]:
     """The names under which the desk may be called, with the port."""
     hosts = {*LOOPBACK, host, *names}
     if host in ("0.0.0.0", "::"):
@@ -195,7 +219,13 @@ def hosts_of(host, port, names):
     return {f"{it}:{port}" for it in named} | (named if port in (80, 443) else set()) | set(names)
 
 
-def bound(host, port):
+def trusted(hosts: Iterable[str]) -> List[str]:
+    """The same without their ports, as Starlette cuts a call's host at its first colon. Of an address of IPv6 a bracket is
+    left; a browser takes such an address from no server of names, so nobody can make it lead here."""
+    return sorted({it.split(":")[0].lower() for it in hosts})
+
+
+def bound(host: str, port: int) -> socket.socket:
     """A socket of the desk's address."""
     family = socket.AF_INET6 if ":" in host else socket.AF_INET
     # asyncio sends small answers at once where the socket says that it is TCP's.
@@ -208,7 +238,7 @@ def bound(host, port):
     return listener
 
 
-def tiles_of(values):
+def tiles_of(values: Mapping[str, str]) -> Tuple[Optional[str], Optional[str]]:
     """The address of map tiles and the place that the page may load them from."""
     tiles = values.get("tiles")
     if tiles is None:
@@ -220,7 +250,7 @@ def tiles_of(values):
     return tiles, f"{scheme}://{place}"
 
 
-def asked(found, path):
+def asked(found: object, path: pathlib.Path) -> bool:
     """Whether the operator goes on with other replies than before."""
     print(f"{path}: the replies of the day so far differ at {found}", file=sys.stderr)
     print("Go on with the new replies? The old transcript is kept beside the new one. (yes/no) ",
@@ -228,7 +258,7 @@ def asked(found, path):
     return sys.stdin.readline().strip().lower() in ("y", "yes")
 
 
-def rebuild_asked(folder):
+def rebuild_asked(folder: Folder) -> bool:
     """Whether the operator has the transcript made anew of the rows."""
     print(f"{folder.path}: the transcript is missing or empty, and rows.csv has {len(folder.kept_rows())} rows of this day",
           file=sys.stderr)
@@ -236,7 +266,7 @@ def rebuild_asked(folder):
     return sys.stdin.readline().strip().lower() in ("y", "yes")
 
 
-async def rebuilt(dispatcher, folder):
+async def rebuilt(dispatcher: Dispatcher, folder: Folder) -> None:
     """Makes a lost transcript anew, where the operator wants it: it is never taken for that of a new day."""
     from ridepool.desk.dispatcher import Unavailable
 
@@ -250,7 +280,7 @@ async def rebuilt(dispatcher, folder):
     log.say(f"the transcript was made anew of {folder.path}/rows.csv", log.WARNING)
 
 
-async def replayed(dispatcher, folder, kept):
+async def replayed(dispatcher: Dispatcher, folder: Folder, kept: Sequence[str]) -> None:
     """Gives the day so far to `live`."""
     from ridepool.desk.dispatcher import Unavailable
 
@@ -261,12 +291,13 @@ async def replayed(dispatcher, folder, kept):
     except Unavailable as fault:
         raise Fault(str(fault)) from None
     if found is not None and not await asyncio.to_thread(asked, found, folder.path / "transcript"):
-        await dispatcher.live.kill()
+        if dispatcher.live is not None:
+            await dispatcher.live.kill()
         raise Fault("the day was left as it is")
     dispatcher.go_on(replaced=found is not None)
 
 
-async def opened(values, folder):
+async def opened(values: Mapping[str, str], folder: Folder) -> Dispatcher:
     """The dispatcher, with the day so far."""
     from ridepool.desk.dispatcher import Dispatcher
     from ridepool.desk.trouble import Watch
@@ -283,12 +314,12 @@ async def opened(values, folder):
     return dispatcher
 
 
-async def serve(values):
+async def serve(values: Mapping[str, str]) -> int:
     """Opens the desk, until it is told to end. Gives the status with which it ends."""
     host, port = values.get("host", LOOPBACK[0]), number(values, "port", 0, 65_535, 8000)
     from ridepool.desk.hook import hook_of
 
-    tokens, (tiles, tiles_place) = tokens_of(values), tiles_of(values)
+    tokens, (tiles, tiles_place), names = tokens_of(values), tiles_of(values), names_of(values)
     hook = hook_of(values.get("hook"), values.get("secret"))
     listener = bound(host, port)
     port, folder = listener.getsockname()[1], day_of(values)
@@ -299,20 +330,27 @@ async def serve(values):
     except (Fault, OSError):
         folder.forget_unbegun()
         raise
-    hosts = hosts_of(host, port, [it for it in values.get("name", "").split(",") if it])
+    hosts = hosts_of(host, port, names)
     page = {"needs_token": tokens is not None, "tiles": tiles, **page_of(values, dispatcher)}
+    from starlette.middleware.trustedhost import TrustedHostMiddleware
+
     from ridepool.desk.access import AccessLog
+    from ridepool.desk.calls.shared import Desk
     from ridepool.desk.guard import Guard, Who
-    from ridepool.desk.web import Desk, make_app
+    from ridepool.desk.ways import Ways
+    from ridepool.desk.web import make_app
+    from ridepool.inputs.roads import Roads
 
     # Where it has other names, a server may stand before it that others can call.
     reading = is_open(values) or "name" in values or "tokens" in values
     who = Who(tokens, reading, AccessLog(folder.path / ACCESS))
-    app = Guard(make_app(Desk(dispatcher, places, streets, page)), hosts, who, tiles_place)
-    return await run_desk(dispatcher, app, listener, clients_of(values, folder, dispatcher, places, streets))
+    ways = Ways(Roads(streets))
+    guard = Guard(make_app(Desk(dispatcher, places, streets, ways, page)), hosts, who, tiles_place)
+    app = TrustedHostMiddleware(guard, trusted(hosts), www_redirect=False)
+    return await run_desk(dispatcher, app, listener, clients_of(values, folder, dispatcher, places, ways))
 
 
-def page_of(values, dispatcher):
+def page_of(values: Mapping[str, str], dispatcher: Dispatcher) -> Dict[str, Any]:
     """What the page has to know of the day."""
     from ridepool.desk.trouble import setting
 
@@ -320,17 +358,17 @@ def page_of(values, dispatcher):
             "began": time.time() - dispatcher.clock.exact(), "speed": dispatcher.clock.speed, "zone": zone()}
 
 
-def zone():
+def zone() -> str:
     """The name of this machine's time zone."""
     if os.environ.get("TZ"):
         return os.environ["TZ"].lstrip(":")
     return os.path.realpath("/etc/localtime").partition("/zoneinfo/")[2] or "UTC"
 
 
-def clients_of(values, folder, dispatcher, places, streets):
+def clients_of(values: Mapping[str, str], folder: Folder, dispatcher: Dispatcher, places: Places,
+               ways: Ways) -> List[Coroutine[Any, Any, None]]:
     """What goes on by itself: seals, and the demo's drivers and riders."""
     from ridepool.desk import demo
-    from ridepool.inputs.roads import Roads
 
     clients = [dispatcher.keep_watch()]
     if dispatcher.hook is not None:
@@ -340,11 +378,12 @@ def clients_of(values, folder, dispatcher, places, streets):
     if number(values, "drivers", 0, 1, 0):
         dwell = int(described(folder).get("dwell", 0))
         riders, seed = number(values, "riders", 0, 1, 0), number(values, "seed", 0, MOST_NUMBER, 1)
-        clients.append(demo.run(dispatcher, Roads(streets), places.at, dwell, seed, riders == 1))
+        clients.append(demo.run(dispatcher, ways, places.at, dwell, seed, riders == 1))
     return clients
 
 
-async def run_desk(dispatcher, app, listener, clients):
+async def run_desk(dispatcher: Dispatcher, app: ASGIApp, listener: socket.socket,
+                   clients: Iterable[Coroutine[Any, Any, None]]) -> int:
     """Serves the page and the calls. Gives the status with which the desk ends."""
     import uvicorn
 
@@ -367,7 +406,7 @@ async def run_desk(dispatcher, app, listener, clients):
     return status_of(dispatcher)
 
 
-def status_of(dispatcher):
+def status_of(dispatcher: Dispatcher) -> int:
     """0 where the desk was told to end; else what ended it is said."""
     from ridepool.desk.dispatcher import Ended
 
@@ -380,7 +419,7 @@ def status_of(dispatcher):
     return 0
 
 
-async def ended(server, listener, dispatcher):
+async def ended(server: uvicorn.Server, listener: socket.socket, dispatcher: Dispatcher) -> None:
     """Serves until a signal comes or something ends the desk. Listeners are let go first, since they would never end."""
     serving = asyncio.ensure_future(server.serve(sockets=[listener]))
     while not server.started and not serving.done():
@@ -388,14 +427,14 @@ async def ended(server, listener, dispatcher):
     host, port = listener.getsockname()[:2]
     log.say(f"http://{host}:{port} keeps its day in {dispatcher.folder.path}")
 
-    def stop():
-        if server.should_exit:  # a second signal doesn't wait for a batch that is being solved
-            asyncio.ensure_future(dispatcher.live.kill())
+    def stop() -> None:
+        if server.should_exit and dispatcher.live is not None:  # a second signal doesn't wait for a batch that is being solved
+            dispatcher.spawn(dispatcher.live.kill())
         dispatcher.release_listeners()
         server.force_exit = server.should_exit
         server.should_exit = True
 
-    def fail(_):
+    def fail(_: object) -> None:
         dispatcher.fail_waiting()
         asyncio.get_running_loop().call_later(FAREWELL, stop)
 
@@ -405,7 +444,7 @@ async def ended(server, listener, dispatcher):
     await serving
 
 
-def open_desk(arguments):
+def open_desk(arguments: List[str]) -> None:
     """The tool."""
     if arguments[:1] == ["token"]:
         from ridepool.desk.tokens import token_tool
@@ -420,6 +459,6 @@ def open_desk(arguments):
     sys.exit(asyncio.run(serve(values)))
 
 
-def main():
+def main() -> None:
     """The command."""
     run_tool(open_desk, USAGE)

@@ -55,7 +55,7 @@ class Connections:
 
 def limited(base: Type[Any], connections: Connections, seconds: float = HEADER_SECONDS) -> Type[Any]:
     """The server's class of connections, which holds the limits, too."""
-    class Limited(base):  # type: ignore[misc]
+    class Limited(base):  # type: ignore[misc]  # a class that uvicorn chooses as it starts
         """A connection whose headers have to be whole in time."""
 
         is_taken, unfinished = False, None
@@ -64,7 +64,8 @@ def limited(base: Type[Any], connections: Connections, seconds: float = HEADER_S
             self.transport = transport
             self.is_taken = connections.add(self, address_of(transport))
             if not self.is_taken:
-                return transport.abort()
+                transport.abort()
+                return
             super().connection_made(transport)
             self.await_headers()
 

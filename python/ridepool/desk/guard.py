@@ -4,11 +4,13 @@ from __future__ import annotations
 
 import asyncio
 import json
-from typing import Any, Awaitable, Callable, Collection, Dict, List, Mapping, NamedTuple, Optional, Tuple
+from typing import Collection, List, Mapping, NamedTuple, Optional, Tuple
+
+from starlette.types import ASGIApp, Message, Receive, Scope, Send
 
 from ridepool.desk.access import AccessLog
 from ridepool.desk.calls.files import is_file
-from ridepool.desk.once import MOST_LETTERS, Message, Once, Send
+from ridepool.desk.once import MOST_LETTERS, Once
 from ridepool.desk.tokens import ANYONE, Holder, Tokens
 
 MOST_BYTES = 65_536
@@ -21,9 +23,6 @@ HEADERS = [
     (b"referrer-policy", b"no-referrer"),
     (b"cross-origin-resource-policy", b"same-origin"),
 ]
-Scope = Dict[str, Any]
-Receive = Callable[[], Awaitable[Message]]
-App = Callable[[Scope, Receive, Send], Awaitable[None]]
 
 
 class Refusal(NamedTuple):
@@ -56,9 +55,9 @@ def policy(tiles: Optional[str]) -> bytes:
 
 
 class Guard:
-    """Wraps the desk's calls. `hosts` are the names under which it may be called."""
+    """Wraps the desk's calls. Pages of `hosts`, names with their ports, may make them."""
 
-    def __init__(self, app: App, hosts: Collection[str], who: Who, tiles: Optional[str] = None) -> None:
+    def __init__(self, app: ASGIApp, hosts: Collection[str], who: Who, tiles: Optional[str] = None) -> None:
         self.app, self.hosts, self.who, self.once = app, {it.lower() for it in hosts}, who, Once()
         self.headers = [(b"content-security-policy", policy(tiles)), *HEADERS]
 
@@ -90,10 +89,10 @@ class Guard:
         method = "GET" if scope["method"] == "HEAD" and scope["path"] != "/events" else scope["method"]
         scope = {**scope, "method": method, "holder": holder or ANYONE,
                  "is_welcome": lambda: holder is None or self.holder(headers) == holder}
-        key = headers.get(b"idempotency-key", b"").decode("latin-1")
+        key, again = headers.get(b"idempotency-key", b"").decode("latin-1"), given_first(body, receive)
 
         async def call(send: Send) -> None:
-            await self.app(scope, given_first(body, receive), self.marked(send))
+            await self.app(scope, again, self.marked(send))
 
         if not key or method not in WRITES:
             await call(send)
@@ -114,8 +113,6 @@ class Guard:
 
     def refusal(self, method: str, path: str, headers: Mapping[bytes, bytes], holder: Optional[Holder]) -> Optional[Refusal]:
         """Why a call is refused before it is read; None where it may come."""
-        if headers.get(b"host", b"").decode("latin-1").lower() not in self.hosts:
-            return Refusal(421, "this desk isn't called by that name")
         if not self.own_page(method, headers):
             return Refusal(403, "another site's page can't call this desk")
         length = headers.get(b"content-length", b"0")

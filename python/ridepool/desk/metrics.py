@@ -106,8 +106,10 @@ def states(dispatcher: Dispatcher) -> "Counter[str]":
 
 def memory_of(dispatcher: Dispatcher) -> int:
     """The bytes of memory that the started program holds; 0 where it doesn't run."""
+    if dispatcher.live is None or dispatcher.live.child is None:
+        return 0
     try:
         with open(f"/proc/{dispatcher.live.child.pid}/statm", encoding="ascii") as file:
             return int(file.read().split()[1]) * resource.getpagesize()
-    except (OSError, AttributeError, IndexError):
+    except (OSError, IndexError):
         return 0

@@ -4,12 +4,12 @@ from __future__ import annotations
 
 import asyncio
 from collections import OrderedDict
-from typing import Any, Awaitable, Callable, Dict, List, NamedTuple, Optional, Tuple
+from typing import Awaitable, Callable, List, NamedTuple, Optional, Tuple
+
+from starlette.types import Message, Send
 
 MOST_KEPT = 10_000
 MOST_LETTERS = 200
-Message = Dict[str, Any]
-Send = Callable[[Message], Awaitable[None]]
 Key = Tuple[str, str, str, str]
 
 

@@ -2,7 +2,7 @@
 
 from __future__ import annotations
 
-from typing import Any, Dict
+from typing import Any, Dict, Mapping
 
 from fastapi import FastAPI, Request
 from fastapi.exceptions import RequestValidationError
@@ -35,7 +35,7 @@ def make_app(desk: Desk) -> FastAPI:
     return app
 
 
-def problem_of(fault: Dict[str, Any]) -> Dict[str, str]:
+def problem_of(fault: Mapping[str, Any]) -> Dict[str, str]:
     """A fault of a value: its field, which is empty for the whole body, and what is wrong with it."""
     if fault["type"] in NO_JSON:
         return {"field": "", "text": f"not JSON: {fault.get('ctx', {}).get('error') or fault['msg']}"}

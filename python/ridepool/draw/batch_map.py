@@ -8,14 +8,15 @@ the others are thin and dark.
 import math
 from collections import Counter
 from dataclasses import dataclass
-from typing import Optional
+from typing import Any, Dict, Iterable, List, Mapping, Optional, Sequence, Tuple
 
 from matplotlib.collections import LineCollection
 from matplotlib.lines import Line2D
 from matplotlib.patheffects import Normal, Stroke
 
 from ridepool.draw import style
-from ridepool.report.reader import Trip
+from ridepool.draw.ground import Ground, Point
+from ridepool.report.reader import Batch, Report, Request, Trip
 from ridepool.words import Fault
 
 MAP_WIDTH, LEAST_HEIGHT, MOST_HEIGHT = 7.4, 3.4, 10.5
@@ -32,22 +33,22 @@ class Way:
 
     trip: Trip
     begin: Optional[int]
-    line: list
+    line: List[Point]
 
 
 @dataclass(frozen=True)
 class Canvas:
     """The map's axes, and how many points a metre has on paper."""
 
-    axes: object
+    axes: style.Axes
     scale: float
 
-    def aside(self, points, shift):
+    def aside(self, points: Sequence[Point], shift: float) -> List[Point]:
         """Points moved by so many points on paper to the upper right."""
         return [(x + shift / self.scale, y + shift / self.scale) for x, y in points]
 
 
-def find_batch(report, number):
+def find_batch(report: Report, number: int) -> Batch:
     """The batch of a number, with a plan."""
     for batch in report.batches:
         if batch.number == number:
@@ -58,7 +59,7 @@ def find_batch(report, number):
     raise Fault(f"no batch {number}: the report has {there}")
 
 
-def ways_of(batch, ground, before):
+def ways_of(batch: Batch, ground: Ground, before: Mapping[int, int]) -> List[Way]:
     """The trips with stops, those with the most stops first."""
     ways = []
     for trip in batch.plans():
@@ -69,7 +70,7 @@ def ways_of(batch, ground, before):
     return sorted(ways, key=lambda way: (-len(way.trip.stops), way.trip.vehicle))
 
 
-def canvas_of(places):
+def canvas_of(places: Mapping[int, Point]) -> Tuple[style.Picture, Canvas]:
     """An empty picture with a map as high as the places ask for."""
     xs, ys = zip(*places.values())
     wide, high = max(xs) - min(xs) or 1.0, max(ys) - min(ys)
@@ -88,9 +89,9 @@ def canvas_of(places):
     return picture, Canvas(axes, 72 / metres)
 
 
-def spread(points, apart, taken):
+def spread(points: Iterable[Point], apart: float, taken: List[Point]) -> List[Point]:
     """Places for marks near their points, each `apart` from those before it and from the taken ones."""
-    placed = []
+    placed: List[Point] = []
     for point in points:
         tries = [point] + [around(point, apart * ring, part / (8 * ring))
                            for ring in (1, 2, 3, 4) for part in range(8 * ring)]
@@ -100,13 +101,13 @@ def spread(points, apart, taken):
     return placed
 
 
-def around(point, radius, turn):
+def around(point: Point, radius: float, turn: float) -> Point:
     """A place on the circle around a point, from the upper right on."""
     angle = 2 * math.pi * (turn + 0.125)
     return point[0] + radius * math.cos(angle), point[1] + radius * math.sin(angle)
 
 
-def draw_streets(canvas, ground):
+def draw_streets(canvas: Canvas, ground: Ground) -> List[Point]:
     """The streets, and the nodes' names where there are few. Gives the places that the names take."""
     names, arcs = ground.streets.names, ground.streets.graph.tocoo()
     pairs = {(min(pair), max(pair)) for pair in zip(arcs.row, arcs.col)}
@@ -116,13 +117,13 @@ def draw_streets(canvas, ground):
         LineCollection(lines, colors=style.PALE, linewidths=width, zorder=0, gid="streets"))
     if len(names) > MOST_NODE_NAMES:
         return []
-    below = [(x, y - 1.3 * MARK / canvas.scale) for x, y in map(ground.places.get, names)]
+    below = [(x, y - 1.3 * MARK / canvas.scale) for x, y in (ground.places[node] for node in names)]
     for node, place in zip(names, below):
         canvas.axes.text(*place, str(node), color=style.GREY, fontsize=7, ha="center", va="center")
     return below
 
 
-def draw_others(canvas, ways, ground):
+def draw_others(canvas: Canvas, ways: Sequence[Way], ground: Ground) -> None:
     """Trips without a name: a street is the wider the more of them use it; their stops are small marks."""
     uses = Counter(frozenset(leg) for way in ways for leg in zip(way.line, way.line[1:]) if leg[0] != leg[1])
     most = max(uses.values(), default=1)
@@ -137,26 +138,26 @@ def draw_others(canvas, ways, ground):
                                 gid=f"other-{kind}s")
 
 
-def ink_on(colour):
+def ink_on(colour: str) -> str:
     """Black on light colours, white on dark ones."""
     red, green, blue = (int(colour[at:at + 2], 16) for at in (1, 3, 5))
     return "black" if 0.3 * red + 0.59 * green + 0.11 * blue > 140 else "white"
 
 
-def colour_of(rank):
+def colour_of(rank: int) -> str:
     """A trip's colour; after the last one they come again."""
     return style.TRIPS[rank % len(style.TRIPS)]
 
 
-def strokes(rank):
+def strokes(rank: int) -> Dict[str, Any]:
     """How a named trip's line is drawn: where the colours come again, with white inside."""
-    looks = {"color": colour_of(rank), "linewidth": 2.4}
+    looks: Dict[str, Any] = {"color": colour_of(rank), "linewidth": 2.4}
     if rank >= len(style.TRIPS):
         looks["path_effects"] = [Normal(), Stroke(linewidth=0.8, foreground="white")]
     return looks
 
 
-def draw_lines(canvas, ways):
+def draw_lines(canvas: Canvas, ways: Sequence[Way]) -> None:
     """The lines of named trips, a little aside from each other where they share a street."""
     step = min(ASIDE, 2 * MOST_ASIDE / max(1, len(ways) - 1))
     for rank, way in enumerate(ways):
@@ -166,7 +167,7 @@ def draw_lines(canvas, ways):
                          **strokes(rank))
 
 
-def draw_stops(canvas, ways, ground, taken):
+def draw_stops(canvas: Canvas, ways: Sequence[Way], ground: Ground, taken: List[Point]) -> None:
     """The stops of named trips with their numbers in the trip's order; marks at one node stand side by side."""
     stops = [(rank, order, stop) for rank, way in enumerate(ways)
              for order, stop in enumerate(way.trip.stops, 1)]
@@ -188,13 +189,13 @@ def draw_stops(canvas, ways, ground, taken):
                          va="center_baseline", zorder=6)
 
 
-def bar_metres(metres):
+def bar_metres(metres: float) -> float:
     """The length of a scale bar: the longest of 1, 2 and 5 with noughts that is at most so many metres."""
-    least = 10 ** math.floor(math.log10(metres))
+    least = 10.0 ** math.floor(math.log10(metres))
     return max(times * least for times in (1, 2, 5) if times * least <= metres)
 
 
-def draw_scale(canvas):
+def draw_scale(canvas: Canvas) -> None:
     """A bar of so many metres, at the lower left."""
     (west, east), (south, north) = canvas.axes.get_xlim(), canvas.axes.get_ylim()
     metres = bar_metres((east - west) / 4)
@@ -204,7 +205,7 @@ def draw_scale(canvas):
     canvas.axes.text(x, y + 3 / canvas.scale, text, color=style.DARK, fontsize=7, va="bottom", zorder=8)
 
 
-def draw_vehicles(canvas, named, before, ground):
+def draw_vehicles(canvas: Canvas, named: Sequence[Way], before: Mapping[int, int], ground: Ground) -> None:
     """A ring where each vehicle stands, coloured for named trips."""
     colours = {way.trip.vehicle: colour_of(rank) for rank, way in enumerate(named)}
     known = sorted((vehicle in colours, vehicle, node) for vehicle, node in before.items())
@@ -217,7 +218,8 @@ def draw_vehicles(canvas, named, before, ground):
             linewidths=[1.8 if is_named else 0.8 for is_named, _, _ in known])
 
 
-def draw_left(canvas, batch, requests, before, ground):
+def draw_left(canvas: Canvas, batch: Batch, requests: Mapping[int, Request], before: Mapping[int, int],
+              ground: Ground) -> int:
     """Riders left out, and the moves towards them. Gives how many moves have no known beginning."""
     places = [ground.places[requests[rider].origin] for rider in batch.out]
     if places:
@@ -231,7 +233,7 @@ def draw_left(canvas, batch, requests, before, ground):
     return len(batch.moves) - len(known)
 
 
-def key(canvas, named, others, batch, before):
+def key(canvas: Canvas, named: Sequence[Way], others: Sequence[Way], batch: Batch, before: Mapping[int, int]) -> None:
     """What the colours and shapes mean, beside the map."""
     shown = []
     for rank, way in enumerate(named):
@@ -241,7 +243,6 @@ def key(canvas, named, others, batch, before):
     if others:
         text = f"{style.counted(len(others), 'other trip')}: wider for more"
         shown.append((Line2D([], [], color=style.OTHERS, linewidth=2), text))
-    mark = (lambda shape, **looks: Line2D([], [], linestyle="", marker=shape, **looks))
     shown += [(mark("^", color=style.DARK), "pickup"), (mark("v", color=style.DARK), "drop-off")]
     if before:
         shown.append((mark("o", markerfacecolor="white", markeredgecolor=style.DARK), "vehicle at this seal"))
@@ -253,7 +254,12 @@ def key(canvas, named, others, batch, before):
     canvas.axes.legend(*zip(*shown), loc="upper left", bbox_to_anchor=(1.0, 1.0), frameon=False, fontsize=8.5)
 
 
-def notes(ways, unknown_moves):
+def mark(shape: str, **looks: Any) -> Any:
+    """A mark of the key."""
+    return Line2D([], [], linestyle="", marker=shape, **looks)
+
+
+def notes(ways: Sequence[Way], unknown_moves: int) -> str:
     """What the map can't show, for a line below the key."""
     lost = sum(1 for way in ways if way.begin is None)
     lines = [f"{style.counted(lost, 'line')} without the way to the first stop"] if lost else []
@@ -261,7 +267,7 @@ def notes(ways, unknown_moves):
     return "\n".join(lines + ["name fleet=fleet.csv for these"]) if lines else ""
 
 
-def draw(report, number, ground):
+def draw(report: Report, number: int, ground: Ground) -> style.Picture:
     """The picture."""
     batch = find_batch(report, number)
     requests, before = report.requests(), ground.vehicles_before(report, batch.position)

@@ -1,6 +1,8 @@
 """Draws a printed report of ridepool: a day of its vehicles, the service of its batches, or one batch's map; or
 the figures of a study."""
 
+from typing import Any, List, Mapping, Sequence, Tuple
+
 from ridepool.report.reader import read_report
 from ridepool.study.plan import SETTINGS
 from ridepool.inputs.tables import MOST_NUMBER
@@ -13,7 +15,7 @@ PICTURES = ("day", "service", "study")
 WORDS = ("batch", "nodes", "network", "fleet", "made", "dark")
 
 
-def which_picture(plain, values):
+def which_picture(plain: Sequence[str], values: Mapping[str, str]) -> Tuple[str, List[str]]:
     """The picture that the words ask for, and the words that are left: the report and the picture's file."""
     asked = [word for word in plain if word in PICTURES] + ["batch"] * ("batch" in values)
     files = [word for word in plain if word not in PICTURES]
@@ -22,7 +24,7 @@ def which_picture(plain, values):
     return asked[0], files
 
 
-def picture_of(kind, path, values):
+def picture_of(kind: str, path: str, values: Mapping[str, str]) -> Any:
     """The picture."""
     if kind == "study":
         from ridepool.draw import study
@@ -45,7 +47,7 @@ def picture_of(kind, path, values):
     return batch_map.draw(report, batch, ground.Ground.of(report, values))
 
 
-def convert(arguments):
+def convert(arguments: List[str]) -> None:
     """The tool."""
     plain, values = split_words(arguments, (*WORDS, *SETTINGS, "split"), USAGE)
     kind, (path, out) = which_picture(plain, values)
@@ -59,6 +61,6 @@ def convert(arguments):
     style.write(picture, out)
 
 
-def main():
+def main() -> None:
     """The command."""
     run_tool(convert, USAGE)

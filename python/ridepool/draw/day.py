@@ -5,18 +5,21 @@ holds. A report without any entered stop shows each batch's plan up to the next 
 """
 
 from dataclasses import dataclass
+from typing import Any, Dict, Iterable, Iterator, List, Mapping, Sequence, Tuple
 
 from matplotlib.collections import LineCollection, PolyCollection
 from matplotlib.lines import Line2D
 from matplotlib.patches import Patch
 
 from ridepool.draw import style
+from ridepool.report.reader import Report, Request, Trip
 from ridepool.words import Fault
 
 WIDTH, MOST_HEIGHT, ROW_HEIGHT, HEAD = 10.0, 16.0, 0.34, 1.6
 MOST_NAMED, LABEL_HEIGHT = 40, 0.17
 BUSIEST = 20
 BAR, ASIDE = 0.8, 0.2
+Requests = Mapping[int, Request]
 
 
 @dataclass(frozen=True)
@@ -35,7 +38,7 @@ class Run:
     """Marks of a vehicle in their order, with nobody aboard before them; it ends at `end` or after them."""
 
     vehicle: int
-    marks: tuple
+    marks: Tuple[Mark, ...]
     end: float
 
 
@@ -44,12 +47,12 @@ class Bar:
     """A time at which the same persons are aboard."""
 
     start: int
-    end: int
+    end: float
     persons: int
     planned: bool
 
 
-def vehicles_of(report):
+def vehicles_of(report: Report) -> List[int]:
     """All vehicles that the report names, by rising id."""
     named = {e.fields[0] for e in report.entries if e.command in ("report", "pickup", "dropoff")
              and "unknown-vehicle" not in e.reply}
@@ -57,16 +60,16 @@ def vehicles_of(report):
     return sorted(named | planned)
 
 
-def planned_marks(trip, requests):
+def planned_marks(trip: Trip, requests: Requests) -> Iterator[Mark]:
     """The stops of a plan as marks."""
     for stop in trip.stops:
         party = requests[stop.rider].party
         yield Mark(stop.kind, stop.rider, stop.second, party if stop.kind == "pick" else -party, True)
 
 
-def entered_marks(report, requests):
+def entered_marks(report: Report, requests: Requests) -> Dict[int, List[Mark]]:
     """The pickups and drop-offs that were entered, by vehicle."""
-    marks = {}
+    marks: Dict[int, List[Mark]] = {}
     for entry in report.entries:
         if entry.reply in ("picked", "dropped"):
             vehicle, rider, second = entry.fields
@@ -76,7 +79,7 @@ def entered_marks(report, requests):
     return marks
 
 
-def entered_runs(report, marks, requests):
+def entered_runs(report: Report, marks: Mapping[int, List[Mark]], requests: Requests) -> List[Run]:
     """A run for each vehicle: what was entered, then what its last plan still holds."""
     done = {(mark.kind, mark.rider) for of_one in marks.values() for mark in of_one}
     gone = {e.fields[0] for e in report.entries if e.reply == "cancelled"}
@@ -85,25 +88,25 @@ def entered_runs(report, marks, requests):
     last = {trip.vehicle: trip for batch in solved[-1:] for trip in batch.plans()}
     runs = []
     for vehicle in sorted(set(last) | set(marks)):
-        left = planned_marks(last[vehicle], requests) if vehicle in last else ()
-        left = [m for m in left if (m.kind, m.rider) not in done and m.rider not in gone]
+        planned = planned_marks(last[vehicle], requests) if vehicle in last else ()
+        left = [m for m in planned if (m.kind, m.rider) not in done and m.rider not in gone]
         runs.append(Run(vehicle, tuple(marks.get(vehicle, []) + left), 0))
     return runs
 
 
-def planned_runs(report, requests):
+def planned_runs(report: Report, requests: Requests) -> List[Run]:
     """A run for each plan of each batch, up to the next batch that has a plan."""
     runs = []
     solved = [batch for batch in report.batches if not batch.overflow]
-    for batch, following in zip(solved, solved[1:] + [None]):
-        end = following.second if following else float("inf")
+    ends = [*(batch.second for batch in solved[1:]), float("inf")]
+    for batch, end in zip(solved, ends):
         for trip in batch.plans():
             marks = tuple(mark for mark in planned_marks(trip, requests) if mark.second < end)
             runs.append(Run(trip.vehicle, marks, end))
     return runs
 
 
-def runs_of(report):
+def runs_of(report: Report) -> Tuple[List[Run], bool]:
     """What is drawn of the vehicles, and whether stops were entered."""
     requests = report.requests()
     marks = entered_marks(report, requests)
@@ -112,10 +115,10 @@ def runs_of(report):
     return planned_runs(report, requests), False
 
 
-def bars_of(run):
+def bars_of(run: Run) -> List[Bar]:
     """The times of a run with persons aboard."""
     bars, aboard = [], 0
-    ends = [mark.second for mark in run.marks[1:]]
+    ends: List[float] = [mark.second for mark in run.marks[1:]]
     last = run.marks[-1].second if run.marks else 0
     ends.append(run.end if last < run.end < float("inf") else last)
     for mark, end in zip(run.marks, ends):
@@ -125,28 +128,29 @@ def bars_of(run):
     return bars
 
 
-def named_rows(vehicles, runs, row_height):
+def named_rows(vehicles: Sequence[int], runs: Iterable[Run], row_height: float) -> List[int]:
     """The rows whose vehicles are named: all, or the busiest that stand far enough from each other."""
     if len(vehicles) <= MOST_NAMED:
         return list(range(len(vehicles)))
     picked = dict.fromkeys(vehicles, 0)
     for run in runs:
         picked[run.vehicle] += sum(mark.persons for mark in run.marks if mark.kind == "pick")
-    apart, named = LABEL_HEIGHT / row_height, []
+    apart = LABEL_HEIGHT / row_height
+    named: List[int] = []
     for row in sorted(range(len(vehicles)), key=lambda row: (-picked[vehicles[row]], row)):
         if len(named) < BUSIEST and all(abs(row - other) >= apart for other in named):
             named.append(row)
     return sorted(named)
 
 
-def bar_looks(planned, few):
+def bar_looks(planned: bool, few: bool) -> Dict[str, str]:
     """Planned bars are hatched; where there are many, all are darker, since they are thin."""
     if planned and few:
         return {"facecolor": style.MIST, "hatch": "//////", "edgecolor": style.SKY}
     return {"facecolor": style.SKY if few else style.DARK_SKY}
 
 
-def draw_bars(axes, runs, rows):
+def draw_bars(axes: style.Axes, runs: Iterable[Run], rows: Mapping[int, int]) -> int:
     """The bars, as thick as the persons aboard. Gives the most persons."""
     bars = [(rows[run.vehicle], bar) for run in runs for bar in bars_of(run)]
     most = max((bar.persons for _, bar in bars), default=1)
@@ -162,7 +166,7 @@ def draw_bars(axes, runs, rows):
     return most
 
 
-def draw_marks(axes, runs, rows, size):
+def draw_marks(axes: style.Axes, runs: Sequence[Run], rows: Mapping[int, int], size: float) -> None:
     """Pickups as triangles upward, above the middle; drop-offs downward, below; planned ones hollow."""
     for kind, shape, colour, name, aside in (
             ("pick", "^", style.BLUE, "pickups", -ASIDE), ("drop", "v", style.ORANGE, "dropoffs", ASIDE)):
@@ -176,23 +180,20 @@ def draw_marks(axes, runs, rows, size):
                     gid=name + ("-planned" if planned else ""))
 
 
-def draw_lines(axes, count, seals):
+def draw_lines(axes: style.Axes, count: int, seals: Sequence[int]) -> None:
     """A thin line for each vehicle where they are few, and one for each seal."""
     start, end = axes.get_xlim()
-    lines = [[(start, row), (end, row)] for row in range(count if count <= MOST_NAMED else 0)]
-    axes.add_collection(LineCollection(lines, colors=style.PALE, linewidths=0.6, zorder=0, gid="rows"))
+    rows = [[(start, row), (end, row)] for row in range(count if count <= MOST_NAMED else 0)]
+    axes.add_collection(LineCollection(rows, colors=style.PALE, linewidths=0.6, zorder=0, gid="rows"))
     lines = [[(second, -0.7), (second, count - 0.3)] for second in seals]
     width = 0.7 if len(seals) <= 60 else 0.3
     axes.add_collection(LineCollection(lines, colors=style.SEAL, linewidths=width, zorder=1, gid="seals"))
 
 
-def legend(axes, runs, most, few):
+def legend(axes: style.Axes, runs: Iterable[Run], most: int, few: bool) -> None:
     """What the shapes mean, above the picture."""
-    planned = {mark.planned for run in runs for mark in run.marks}
-    mark = (lambda shape, colour, hollow: Line2D(
-        [], [], linestyle="", marker=shape, markersize=6, markeredgecolor=colour,
-        markerfacecolor="white" if hollow else colour))
-    shown = []
+    planned = {it.planned for run in runs for it in run.marks}
+    shown: List[Tuple[Any, str]] = []
     for hollow in sorted(planned):
         tail = ", planned" if hollow else ""
         shown.append((mark("^", style.BLUE, hollow), "pickup" + tail))
@@ -204,16 +205,22 @@ def legend(axes, runs, most, few):
                 borderaxespad=0.2, handletextpad=0.5, columnspacing=1.4)
 
 
-def title_of(report, vehicles, runs, entered):
+def mark(shape: str, colour: str, hollow: bool) -> Any:
+    """A mark of the legend."""
+    return Line2D([], [], linestyle="", marker=shape, markersize=6, markeredgecolor=colour,
+                  markerfacecolor="white" if hollow else colour)
+
+
+def title_of(report: Report, vehicles: Sequence[int], runs: Sequence[Run], entered: bool) -> str:
     """What the picture shows, in a line."""
-    count = (lambda kind: sum(1 for run in runs for mark in run.marks if mark.kind == kind))
+    picks, drops = (sum(1 for run in runs for it in run.marks if it.kind == kind) for kind in ("pick", "drop"))
     until = ", each plan up to the next seal" if len(report.batches) > 1 else ""
     what = "Day" if entered else f"Planned day (no stop was entered{until})"
-    return f"{what}: {style.counted(len(vehicles), 'vehicle')}, {style.counted(count('pick'), 'pickup')}, " \
-           f"{style.counted(count('drop'), 'drop-off')}"
+    return f"{what}: {style.counted(len(vehicles), 'vehicle')}, {style.counted(picks, 'pickup')}, " \
+           f"{style.counted(drops, 'drop-off')}"
 
 
-def draw(report):
+def draw(report: Report) -> style.Picture:
     """The picture."""
     vehicles = vehicles_of(report)
     if not vehicles:

@@ -1,13 +1,19 @@
 """Where nodes lie, which streets join them, and where vehicles were, for the pictures that need it."""
 
+from __future__ import annotations
+
 from dataclasses import dataclass
+from typing import Dict, List, Mapping, Optional, Sequence, Tuple
 
 from ridepool.inputs import tables
 from ridepool.inputs.streets import Streets
+from ridepool.report.reader import Report
 from ridepool.words import Fault, number
 
+Point = Tuple[float, float]
 
-def streets_of(report, values):
+
+def streets_of(report: Report, values: Mapping[str, str]) -> Optional[Streets]:
     """The streets of the word network=, None where it isn't there."""
     if "network" not in values:
         return None
@@ -19,7 +25,7 @@ def streets_of(report, values):
     return Streets(rows)
 
 
-def places_of(report, values):
+def places_of(report: Report, values: Mapping[str, str]) -> Dict[int, Point]:
     """Where each node lies, by the word nodes= or made=1."""
     if number(values, "made", 0, 1, 0):
         if "nodes" in values:
@@ -36,12 +42,12 @@ def places_of(report, values):
 class Ground:
     """All that a map stands on. `begin` are the nodes of a fleet's file."""
 
-    places: dict
+    places: Dict[int, Point]
     streets: Streets
-    begin: dict
+    begin: Dict[int, int]
 
     @staticmethod
-    def of(report, values):
+    def of(report: Report, values: Mapping[str, str]) -> Ground:
         """The ground that the words name."""
         places, streets = places_of(report, values), streets_of(report, values)
         if streets is None:
@@ -51,7 +57,7 @@ class Ground:
                 raise Fault(f"{values.get('nodes', 'made=1')}: node {node} of the network is not there")
         return Ground(places, streets, tables.read_fleet(values["fleet"]) if "fleet" in values else {})
 
-    def vehicles_before(self, report, position):
+    def vehicles_before(self, report: Report, position: int) -> Dict[int, int]:
         """The node of each vehicle before a position, as far as the fleet's file and the report tell."""
         nodes, requests = dict(self.begin), report.requests()
         for entry in report.entries[:position]:
@@ -63,7 +69,7 @@ class Ground:
                 nodes[entry.fields[0]] = requests[entry.fields[1]].destination
         return nodes
 
-    def line(self, nodes):
+    def line(self, nodes: Sequence[int]) -> List[Point]:
         """A line along shortest ways through nodes, as points."""
         points = [self.places[node] for node in nodes[:1]]
         for start, end in zip(nodes, nodes[1:]):

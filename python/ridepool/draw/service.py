@@ -2,12 +2,15 @@
 
 import math
 from dataclasses import dataclass
+from typing import AbstractSet, Any, Dict, Iterator, List, Mapping, Optional, Sequence, Set, Tuple
 
 from matplotlib.ticker import MaxNLocator
 
 from ridepool.draw import style
+from ridepool.inputs.streets import Streets
 from ridepool.report.marks import refusals_text
 from ridepool.report.measure import refused_of
+from ridepool.report.reader import Batch, Report, Request, Stop
 from ridepool.words import Fault
 
 WIDTH, HEIGHT = 9.0, 9.5
@@ -26,7 +29,7 @@ class Service:
     number: int
     served: int
     out: int
-    waits: tuple
+    waits: Tuple[int, ...]
     mean_delay: float
     worst_delay: float
     cost: float
@@ -34,7 +37,7 @@ class Service:
     rows: int
 
 
-def direct_times(report, streets):
+def direct_times(report: Report, streets: Optional[Streets]) -> Dict[int, float]:
     """The least seconds of each rider's ride, nothing without a network."""
     requests = report.requests()
     if streets is None:
@@ -43,31 +46,32 @@ def direct_times(report, streets):
     return {rider: pairs[r.origin, r.destination] for rider, r in requests.items()}
 
 
-def delay_of(stop, requests, direct):
+def delay_of(stop: Stop, requests: Mapping[int, Request], direct: Mapping[int, float]) -> float:
     """A drop-off's delay: its second less the earliest arrival possible, at least 0."""
     return max(0.0, stop.second - requests[stop.rider].second - direct[stop.rider])
 
 
-def picked_by(batch):
+def picked_by(batch: Batch) -> Set[int]:
     """The riders whom a batch's plan picks up."""
     return {stop.rider for trip in batch.plans() for stop in trip.stops if stop.kind == "pick"}
 
 
-def services_of(report, requests, direct):
+def services_of(report: Report, requests: Mapping[int, Request], direct: Mapping[int, float]) -> Iterator[Service]:
     """The service of each batch."""
-    seen = set()
+    seen: Set[int] = set()
     for batch in report.batches:
         yield service_of(batch, requests, direct, seen)
         seen |= picked_by(batch)
 
 
-def service_of(batch, requests, direct, seen=frozenset()):
+def service_of(batch: Batch, requests: Mapping[int, Request], direct: Mapping[int, float],
+               seen: AbstractSet[int] = frozenset()) -> Service:
     """A batch's service. `seen` are the riders whom a batch before has in its plan."""
     stops = [stop for trip in batch.plans() for stop in trip.stops]
     drops = [stop for stop in stops if stop.kind == "drop"]
     waits = [stop.second - requests[stop.rider].second for stop in stops if stop.kind == "pick"]
     delays = [delay_of(drop, requests, direct) for drop in drops if drop.rider in direct]
-    total = sum(trip.delay for trip in batch.plans())
+    total = sum(trip.delay or 0 for trip in batch.plans())
     return Service(
         batch.number, len(picked_by(batch) - seen), len(batch.out), tuple(waits),
         total / len(drops) if drops else math.nan, max(delays, default=math.nan),
@@ -75,12 +79,12 @@ def service_of(batch, requests, direct, seen=frozenset()):
         batch.counts["row"])
 
 
-def looks(numbers):
+def looks(numbers: Sequence[int]) -> Dict[str, Any]:
     """Lines with marks that stay apart."""
     return {"linewidth": 1.2, "markersize": 5 if len(numbers) <= 60 else 2, "clip_on": False, "zorder": 3}
 
 
-def draw_served(axes, numbers, services, overflows):
+def draw_served(axes: style.Axes, numbers: Sequence[int], services: Sequence[Service], overflows: Sequence[int]) -> None:
     """Riders whom a plan picks up first, and riders left out on top of them."""
     served, out = [s.served for s in services], [s.out for s in services]
     axes.bar(numbers, served, color=style.BLUE, label="served")
@@ -93,7 +97,8 @@ def draw_served(axes, numbers, services, overflows):
     axes.set_ylabel("riders")
 
 
-def draw_spread(axes, numbers, means, worsts, limit, name):
+def draw_spread(axes: style.Axes, numbers: Sequence[int], means: List[float], worsts: List[float], limit: int,
+                name: str) -> None:
     """Mean and worst seconds, and the limit that the settings give."""
     axes.axhline(limit, color=style.GREY, linewidth=1, linestyle=":", label=f"limit {limit:,}")
     if any(not math.isnan(worst) for worst in worsts):
@@ -104,7 +109,7 @@ def draw_spread(axes, numbers, means, worsts, limit, name):
     axes.set_ylabel(f"{name},\nseconds")
 
 
-def draw_cost(axes, numbers, services):
+def draw_cost(axes: style.Axes, numbers: Sequence[int], services: Sequence[Service]) -> None:
     """The plan's cost above its bound."""
     costs, bounds = [s.cost for s in services], [s.bound for s in services]
     axes.fill_between(numbers, bounds, costs, color=style.SKY, linewidth=0)
@@ -115,7 +120,7 @@ def draw_cost(axes, numbers, services):
     axes.set_ylabel("cost,\nseconds")
 
 
-def draw_gap(axes, numbers, services):
+def draw_gap(axes: style.Axes, numbers: Sequence[int], services: Sequence[Service]) -> None:
     """How far the bound lies below the cost, in percent of the cost."""
     gaps = [100 * (s.cost - s.bound) / s.cost if s.cost else 0.0 for s in services]
     axes.bar(numbers, [0.0 if math.isnan(gap) else gap for gap in gaps], color=style.SKY)
@@ -129,14 +134,14 @@ def draw_gap(axes, numbers, services):
     axes.set_ylabel(GAP)
 
 
-def no_gap(planned, batches):
+def no_gap(planned: int, batches: int) -> str:
     """What is said where no planned batch has a gap. A batch that overflowed has no plan, and so neither cost nor bound."""
     if not planned:
         return "no batch has a plan"
     return "no gap: cost and bound meet" + ("" if planned == batches else f" in the {planned} of {batches} batches planned")
 
 
-def title_of(report, services):
+def title_of(report: Report, services: Sequence[Service]) -> str:
     """How many batches, requests and vehicles; how many requests were refused, and for which reason."""
     refused = refused_of(report)
     count = len(report.requests()) + sum(refused.values())
@@ -145,14 +150,14 @@ def title_of(report, services):
            f"{style.counted(count, 'request')}{why}, {style.counted(report.vehicles, 'vehicle')}"
 
 
-def draw_pairs(axes, numbers, services):
+def draw_pairs(axes: style.Axes, numbers: Sequence[int], services: Sequence[Service]) -> None:
     """How many vehicle-trip pairs the plan was chosen from."""
     axes.bar(numbers, [s.rows for s in services], color=style.GREY)
     axes.set_ylim(0, 1.05 * max(1, *(s.rows for s in services)))
     axes.set_ylabel("vehicle-trip\npairs")
 
 
-def finish(picture, panels, numbers):
+def finish(picture: style.Picture, panels: Sequence[style.Axes], numbers: Sequence[int]) -> None:
     """Legends at the side, whole numbers at the axes, room for at least six batches."""
     for axes in panels:
         if axes.get_ylabel() != GAP:
@@ -167,7 +172,7 @@ def finish(picture, panels, numbers):
     picture.align_ylabels(panels)
 
 
-def draw(report, streets):
+def draw(report: Report, streets: Optional[Streets]) -> style.Picture:
     """The picture."""
     if not report.batches:
         raise Fault("nothing to draw: no batch was closed")

@@ -4,6 +4,7 @@ longest wait. A cell that is marked is drawn hollow, and the caption says why.""
 import csv
 import textwrap
 from collections import defaultdict
+from typing import Any, DefaultDict, Dict, List, Mapping, Sequence, Tuple
 
 from ridepool.draw import style
 from ridepool.study.plan import SETTINGS, SPLITS
@@ -18,10 +19,11 @@ TAKEN_TOGETHER = ("delay", "seed")
 CAPTION, MOST_REASONS = 110, 6
 MARKS = "os^Dv*XP"
 DASHES = ("-", "--", "-.", ":")
+Row = Dict[str, Any]  # settings are numbers, all else texts
 COLOURS = (style.BLUE, style.ORANGE, style.BLACK, style.DARK_SKY, style.GREY)
 
 
-def read_cells(path):
+def read_cells(path: str) -> List[Row]:
     """The rows of cells.csv that have results. A table of version 1.3 has the first columns alone."""
     with open(path, newline="", encoding="utf-8") as file:
         table = csv.DictReader(file)
@@ -31,14 +33,14 @@ def read_cells(path):
     return [{**row, **{name: int(row[name]) for name in SETTINGS}} for row in rows]
 
 
-def with_new(row):
+def with_new(row: Mapping[str, str]) -> Dict[str, str]:
     """A row with the columns that its table may not have. Of an older one its overflows mark it."""
     over = int(row["overflows"])
     mark = f"{over} of {row['batches']} batches overflowed" if over else ""
     return {"fleets": "1", "split": SPLITS[0], "mark": mark, **row}
 
 
-def chosen(path, rows, values):
+def chosen(path: str, rows: List[Row], values: Mapping[str, str]) -> List[Row]:
     """The rows with the settings that the words name. What else differs between them must be drawn."""
     asked = {name: value for name, value in values.items() if name in NAMES}
     rows = [row for row in rows if all(str(row[name]) == value for name, value in asked.items())]
@@ -51,9 +53,9 @@ def chosen(path, rows, values):
     return rows
 
 
-def line_of(rows, measure, factor):
+def line_of(rows: Sequence[Row], measure: str, factor: int) -> Tuple[List[int], List[float]]:
     """Fleet sizes and the mean of a measure at each, over the seeds. Where nobody is served there is no wait and no delay."""
-    values = defaultdict(list)
+    values: DefaultDict[int, List[float]] = defaultdict(list)
     for row in rows:
         if row[measure]:
             values[row["vehicles"]].append(factor * float(row[measure]))
@@ -61,7 +63,8 @@ def line_of(rows, measure, factor):
     return sizes, [sum(values[size]) / len(values[size]) for size in sizes]
 
 
-def draw_marked(axes, rows, sizes, line, at, name):
+def draw_marked(axes: style.Axes, rows: Sequence[Row], sizes: Sequence[int], line: Sequence[float], at: int,
+                name: str) -> None:
     """Hollow marks where a cell is marked."""
     marked = {row["vehicles"] for row in rows if row["mark"]}
     hollow = [(size, value) for size, value in zip(sizes, line) if size in marked]
@@ -70,7 +73,7 @@ def draw_marked(axes, rows, sizes, line, at, name):
                   markerfacecolor="white", markersize=5, clip_on=False, zorder=4, gid=f"{name}-marked")
 
 
-def draw_panel(axes, rows, seats, measure, factor):
+def draw_panel(axes: style.Axes, rows: Sequence[Row], seats: Sequence[int], measure: str, factor: int) -> None:
     """A measure of one longest wait."""
     for at, count in enumerate(seats):
         mine = [row for row in rows if row["seats"] == count]
@@ -83,7 +86,7 @@ def draw_panel(axes, rows, seats, measure, factor):
     axes.set_axisbelow(True)
 
 
-def caption_of(rows):
+def caption_of(rows: Sequence[Row]) -> List[str]:
     """What all cells have in common, which seeds they have, and why cells are marked."""
     fixed = [f"{name} {rows[0][name]}" for name in NAMES if name not in DRAWN and len({row[name] for row in rows}) == 1]
     seeds = sorted({row["seed"] for row in rows})
@@ -95,12 +98,12 @@ def caption_of(rows):
     return [*lines, *why, *more]
 
 
-def cell_name(row):
+def cell_name(row: Row) -> str:
     """A cell by what is drawn."""
     return f"{style.counted(row['vehicles'], 'vehicle')}, {style.counted(row['seats'], 'seat')}, wait {row['wait']}"
 
 
-def draw(path, values):
+def draw(path: str, values: Mapping[str, str]) -> style.Picture:
     """The picture."""
     rows = chosen(path, read_cells(path), values)
     waits, seats = (sorted({row[name] for row in rows}) for name in ("wait", "seats"))

@@ -11,12 +11,15 @@ import os
 import re
 from collections import Counter
 from dataclasses import dataclass
+from typing import Any, Dict, Iterable, List, Optional, Sequence, Tuple
 
 from ridepool.inputs import tables
 from ridepool.words import Fault, need, number, run_tool, split_words
 
 USAGE = "use: %(prog)s NET.net.xml OUT/ [edges=1]"
 CARS = "passenger"
+Net = Any  # sumolib has no types
+Streets = Dict[Any, float]  # its streets with their seconds
 
 
 @dataclass(frozen=True)
@@ -38,7 +41,7 @@ class Arc:
     street: str
 
 
-def read_map(path):
+def read_map(path: str) -> Net:
     """The map as sumolib reads it, with the lanes that lead over crossings."""
     import sumolib
 
@@ -52,23 +55,23 @@ def read_map(path):
     return network
 
 
-def natural(name):
+def natural(name: str) -> List[Tuple[int, int, str]]:
     """Sorts names with numbers in them by the numbers."""
     return [(0, int(part), "") if part.isdigit() else (1, 0, part) for part in re.split(r"([0-9]+)", name)]
 
 
-def street_seconds(edge):
+def street_seconds(edge: Any) -> Optional[float]:
     """How long a car takes along a street, None where no car may use it."""
     speeds = [lane.getSpeed() for lane in edge.getLanes() if lane.allows(CARS) and lane.getSpeed() > 0]
     return edge.getLength() / max(speeds) if speeds else None
 
 
-def rounded_up(seconds):
+def rounded_up(seconds: float) -> int:
     """Whole seconds, without counting what is lost or won in a division."""
     return math.ceil(round(seconds, 6))
 
 
-def car_streets(network):
+def car_streets(network: Net) -> Tuple[Streets, int]:
     """Streets that cars may use with their seconds, by name; and how many streets there are in all."""
     edges = [edge for edge in network.getEdges(withInternal=False) if not edge.isSpecial()]
     edges.sort(key=lambda edge: natural(edge.getID()))
@@ -76,7 +79,7 @@ def car_streets(network):
     return {edge: seconds for edge, seconds in timed if seconds is not None}, len(edges)
 
 
-def crossings(streets):
+def crossings(streets: Streets) -> Tuple[List[Place], List[Arc]]:
     """Crossings as places, streets as arcs."""
     ends = {end for edge in streets for end in (edge.getFromNode(), edge.getToNode())}
     places = [Place(end.getID(), *end.getCoord()) for end in ends]
@@ -88,7 +91,7 @@ def crossings(streets):
     return places, arcs
 
 
-def crossing_seconds(network, connection):
+def crossing_seconds(network: Net, connection: Any) -> float:
     """How long a turn takes over the crossing, from lane to lane."""
     seconds, way = 0.0, connection.getViaLaneID()
     while way:
@@ -99,11 +102,12 @@ def crossing_seconds(network, connection):
     return seconds
 
 
-def turns(network, streets):
+def turns(network: Net, streets: Streets) -> Tuple[List[Place], List[Arc]]:
     """Middles of streets as places, turns as arcs."""
     import sumolib
 
-    places, arcs = [], []
+    places: List[Place] = []
+    arcs: List[Arc] = []
     for edge, seconds in streets.items():
         lane = next(lane for lane in edge.getLanes() if lane.allows(CARS))
         half = sumolib.geomhelper.polyLength(lane.getShape()) / 2
@@ -116,7 +120,7 @@ def turns(network, streets):
     return places, arcs
 
 
-def largest_part(places, arcs):
+def largest_part(places: List[Place], arcs: List[Arc]) -> Tuple[List[Place], List[Arc]]:
     """The places and arcs of the largest part in which every place reaches every other."""
     from scipy.sparse import coo_matrix
     from scipy.sparse.csgraph import connected_components
@@ -131,7 +135,7 @@ def largest_part(places, arcs):
     return kept, [arc for arc in arcs if arc.start in names and arc.end in names]
 
 
-def check_limits(path, nodes, arcs, slowest):
+def check_limits(path: str, nodes: int, arcs: int, slowest: Arc) -> None:
     """Refuses what ridepool doesn't take, with the figure. `slowest` is the arc of most seconds."""
     if nodes > tables.MOST_NODES:
         raise Fault(f"{path}: {nodes} nodes, and ridepool takes {tables.MOST_NODES}: cut a smaller map")
@@ -142,7 +146,7 @@ def check_limits(path, nodes, arcs, slowest):
         raise Fault(f"{path}: street {slowest.street} takes {figure}")
 
 
-def degrees_of(path, network, places):
+def degrees_of(path: str, network: Net, places: List[Place]) -> List[Tuple[Optional[float], Optional[float]]]:
     """Longitude and latitude of each place, None for each where the map says nothing of them."""
     projection = network._location.get("projParameter", "!")
     if projection in ("!", "-", ""):
@@ -154,7 +158,7 @@ def degrees_of(path, network, places):
         raise Fault(f"{path}: not a projection: {projection}") from None
 
 
-def as_nodes(places, degrees):
+def as_nodes(places: Iterable[Place], degrees: Iterable[Tuple[Optional[float], Optional[float]]]) -> List[tables.Node]:
     """Places as nodes from 1 on."""
     numbered = enumerate(zip(places, degrees), 1)
     return [tables.Node(at, place.x, place.y, *lonlat, place.name) for at, (place, lonlat) in numbered]
@@ -164,13 +168,13 @@ def as_nodes(places, degrees):
 class Part:
     """What is kept of a map's places and arcs, and how many there were of both."""
 
-    places: list
-    arcs: list
+    places: List[Place]
+    arcs: List[Arc]
     all_places: int
     all_arcs: int
 
 
-def tell(path, streets, cars, part, names):
+def tell(path: str, streets: int, cars: int, part: Part, names: Tuple[str, str]) -> None:
     """Says what was left out and why. `names` are what places and arcs are called."""
     print(f"{path}: {streets} streets")
     print(f"  left out: {streets - cars} that cars may not use")
@@ -178,7 +182,7 @@ def tell(path, streets, cars, part, names):
           f"{names[0]} outside the largest part in which each reaches every other")
 
 
-def kept_part(path, network, by_turns):
+def kept_part(path: str, network: Net, by_turns: bool) -> Part:
     """What becomes the network, after it was said what doesn't."""
     streets, count = car_streets(network)
     if not streets:
@@ -191,7 +195,7 @@ def kept_part(path, network, by_turns):
     return part
 
 
-def write(out, nodes, rows):
+def write(out: str, nodes: Sequence[tables.Node], rows: Sequence[Tuple[int, int, int]]) -> None:
     """Writes the two files and says what is in them."""
     network, places = os.path.join(out, "network.csv"), os.path.join(out, "nodes.csv")
     tables.write_table(network, tables.NETWORK, rows)
@@ -202,7 +206,7 @@ def write(out, nodes, rows):
     print(f"{places}: {len(nodes)} nodes, {degrees} longitude and latitude")
 
 
-def network_of(path, by_turns):
+def network_of(path: str, by_turns: bool) -> Tuple[List[tables.Node], List[Tuple[int, int, int]]]:
     """The nodes and the rows of the network that a map gives, after it was said what is left out."""
     need("sumolib", "scipy")
     network = read_map(path)
@@ -213,15 +217,15 @@ def network_of(path, by_turns):
     return nodes, sorted((node[arc.start], node[arc.end], arc.seconds) for arc in part.arcs)
 
 
-def convert(arguments):
+def convert(arguments: List[str]) -> None:
     """The tool."""
     plain, values = split_words(arguments, ("edges",), USAGE)
     if len(plain) != 2:
         raise Fault(USAGE)
     path, out = plain
-    write(out, *network_of(path, number(values, "edges", 0, 1, 0)))
+    write(out, *network_of(path, number(values, "edges", 0, 1, 0) == 1))
 
 
-def main():
+def main() -> None:
     """The command."""
     run_tool(convert, USAGE)

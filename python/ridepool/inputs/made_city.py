@@ -12,6 +12,7 @@ from bisect import bisect
 from dataclasses import dataclass
 from functools import cached_property
 from itertools import accumulate
+from typing import Dict, Generic, Iterable, Iterator, List, Mapping, Sequence, Tuple, TypeVar
 
 from ridepool.inputs import tables
 from ridepool.words import Fault, number, run_tool, split_words
@@ -32,9 +33,13 @@ CENTRE_SIZE = 0.05
 WAYS = (("centre", "home", 0.45), ("home", "centre", 0.15), ("home", "home", 0.4))
 LEAST_RIDE, LIKELY_RIDE = 400.0, 3000.0
 PARTIES = (50, 20, 15, 8, 7)
+Crossing = Tuple[int, int]  # an avenue and a street
+Road = Tuple[str, bool, int, Crossing, Crossing, bool, bool]
+MadeTrip = Tuple[int, float, float, float, float, int]
+Drawn = TypeVar("Drawn")
 
 
-def width_at(along):
+def width_at(along: float) -> float:
     """Which part of the island's full width it has there, from 0 at the south end to 1 at the north end."""
     for (south, before), (north, after) in zip(SHORES, SHORES[1:]):
         if along <= north:
@@ -50,35 +55,35 @@ class City:
     streets: int
     draw: random.Random
 
-    def shore(self, street):
+    def shore(self, street: int) -> Tuple[int, int]:
         """The first and the last avenue that a street has."""
         cut = (1.0 - width_at(street / (self.streets - 1))) * (self.avenues - 1) / 2
         first = min(math.floor(cut), (self.avenues - 2) // 2)
         return first, self.avenues - 1 - first
 
-    def in_park(self, avenue, street):
+    def in_park(self, avenue: int, street: int) -> bool:
         """Whether a crossing would lie in the park; the park's own streets go on through it."""
         across, along = avenue / (self.avenues - 1), street / (self.streets - 1)
         inside = PARK_ACROSS[0] <= across <= PARK_ACROSS[1] and PARK_ALONG[0] <= along <= PARK_ALONG[1]
         return inside and street % WIDE_STREET != 0
 
     @cached_property
-    def crossings(self):
+    def crossings(self) -> List[Crossing]:
         """All crossings (avenue, street), street by street."""
         rows = ((street, *self.shore(street)) for street in range(self.streets))
         places = ((avenue, street) for street, first, last in rows for avenue in range(first, last + 1))
         return [place for place in places if not self.in_park(*place)]
 
-    def metres(self, place):
+    def metres(self, place: Crossing) -> Tuple[float, float]:
         """Metres east and north."""
         return AVENUE_APART * place[0], STREET_APART * place[1]
 
     @cached_property
-    def length(self):
+    def length(self) -> float:
         """The length of the island in metres."""
         return STREET_APART * (self.streets - 1)
 
-    def pull(self, place):
+    def pull(self, place: Crossing) -> float:
         """How much a place is part of a centre, at most about 1 by strength."""
         east, north = self.metres(place)
         total = 0.0
@@ -88,17 +93,17 @@ class City:
         return total
 
     @cached_property
-    def pulls(self):
+    def pulls(self) -> Dict[Crossing, float]:
         """The pull of each crossing."""
         return {place: self.pull(place) for place in self.crossings}
 
 
-def directions(at, wide):
+def directions(at: int, wide: int) -> Tuple[bool, bool]:
     """Which of forth and back a road has: every so many-th both, the others by turns."""
     return (True, True) if at % wide == 0 else (at % 2 == 0, at % 2 == 1)
 
 
-def roads_of(city):
+def roads_of(city: City) -> Iterator[Road]:
     """Each piece of road between two crossings: kind, whether it is wide, number, ends, forth and back."""
     there = set(city.crossings)
     for avenue, street in city.crossings:
@@ -115,12 +120,12 @@ def roads_of(city):
             yield "avenue", True, -1 - side, (here, street), (there_next, street + 1), True, True
 
 
-def arcs_of(city):
+def arcs_of(city: City) -> Dict[Tuple[Crossing, Crossing], int]:
     """The seconds of each arc between crossings. Each road has a speed of its own, slower in the centres."""
     roads = [("street", street) for street in range(city.streets)]
     roads += [("avenue", avenue) for avenue in range(-2, city.avenues)]
     own = {road: 0.8 + 0.4 * city.draw.random() for road in roads}
-    arcs = {}
+    arcs: Dict[Tuple[Crossing, Crossing], int] = {}
     for kind, wide, at, start, end, forth, back in roads_of(city):
         busy = SLOWER * max(city.pulls[start], city.pulls[end])
         speed = SPEEDS[kind, wide] * own[kind, at] * (1.0 - busy) / 3.6
@@ -131,18 +136,18 @@ def arcs_of(city):
     return arcs
 
 
-class Draws:
+class Draws(Generic[Drawn]):
     """Draws crossings by weights."""
 
-    def __init__(self, draw, places, weights):
+    def __init__(self, draw: random.Random, places: Sequence[Drawn], weights: Iterable[float]) -> None:
         self.draw, self.places, self.sums = draw, places, list(accumulate(weights))
 
-    def one(self):
+    def one(self) -> Drawn:
         """A crossing."""
         return self.places[min(bisect(self.sums, self.draw.random() * self.sums[-1]), len(self.places) - 1)]
 
 
-def rush(draw, seconds):
+def rush(draw: random.Random, seconds: int) -> int:
     """A second of the rush, which is twice as busy in the middle as at both ends."""
     while True:
         second = draw.random() * seconds
@@ -150,20 +155,20 @@ def rush(draw, seconds):
             return int(second)
 
 
-def party(draw, alone):
+def party(draw: random.Random, alone: int) -> int:
     """How many persons travel together, where `alone` of a hundred requests are of one person."""
     if draw.random() * 100 < alone:
         return 1
     return 2 + bisect(list(accumulate(PARTIES)), draw.random() * sum(PARTIES))
 
 
-def trips_of(city, requests, seconds, alone):
+def trips_of(city: City, requests: int, seconds: int, alone: int) -> List[MadeTrip]:
     """The trips as rows of trips.csv, by rising second. Long rides are rarer than short ones."""
     draw, places = city.draw, city.crossings
     ends = {"centre": Draws(draw, places, [city.pulls[place] for place in places]),
             "home": Draws(draw, places, [1.0 - min(0.8, city.pulls[place]) for place in places])}
     ways = Draws(draw, WAYS, [share for _, _, share in WAYS])
-    trips = []
+    trips: List[MadeTrip] = []
     while len(trips) < requests:
         kinds = ways.one()
         start, end = (city.metres(ends[kind].one()) for kind in kinds[:2])
@@ -173,7 +178,7 @@ def trips_of(city, requests, seconds, alone):
     return sorted(trips, key=lambda trip: trip[0])
 
 
-def write_city(out, values):
+def write_city(out: str, values: Mapping[str, str]) -> Tuple[int, int, int]:
     """Makes the city of these words and writes its three files. Gives how many nodes, arcs and trips."""
     seed = number(values, "seed", 0, tables.MOST_NUMBER, 1)
     avenues = number(values, "avenues", 4, 100, 18)
@@ -194,7 +199,7 @@ def write_city(out, values):
     return len(nodes), len(rows), len(trips)
 
 
-def convert(arguments):
+def convert(arguments: List[str]) -> None:
     """The tool."""
     plain, values = split_words(arguments, WORDS, USAGE)
     if len(plain) != 1:
@@ -206,6 +211,6 @@ def convert(arguments):
     print(f"{os.path.join(out, 'trips.csv')}: {trips} trips")
 
 
-def main():
+def main() -> None:
     """The command."""
     run_tool(convert, USAGE)

@@ -158,7 +158,7 @@ def minutes_of(day: Day, seals: List[int]) -> List[int]:
     return [total[minute] for minute in range(-(-max(seals, default=0) // MINUTE))]
 
 
-def riders_of(day: Day, direct: Mapping[int, int]) -> Dict[str, Any]:
+def riders_of(day: Day, direct: Mapping[int, float]) -> Dict[str, Any]:
     """The facts of the riders: who asked, who was refused, and the seconds of each one who was served."""
     requests, submits = day.requests, [entry for entry in day.report.entries if entry.command == "submit"]
     ideal = {rider: requests[rider].second + direct[rider] for rider in day.dropped}
@@ -175,7 +175,7 @@ def riders_of(day: Day, direct: Mapping[int, int]) -> Dict[str, Any]:
     }
 
 
-def measure(report: Report, direct: Mapping[int, int]) -> Dict[str, Any]:
+def measure(report: Report, direct: Mapping[int, float]) -> Dict[str, Any]:
     """The facts of a driven day. `direct` has the least seconds of each rider's ride."""
     day = Day(report).walk()
     planned = [batch for batch in report.batches if not batch.overflow]

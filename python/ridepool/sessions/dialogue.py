@@ -15,8 +15,7 @@ from ridepool.inputs.limits import MOST_NUMBER, MOST_PARTY, NUMBER
 from ridepool.report.batch_frames import BatchFrames
 from ridepool.report.lines import Block, Lines
 from ridepool.report.reader import Batch
-from ridepool.sessions.process import REFUSED_ROW
-from ridepool.sessions.rows import lane_of, row_of
+from ridepool.sessions.rows import lane_of, refused_row, row_of
 from ridepool.sessions.state import Lines as Transcript
 
 
@@ -137,11 +136,9 @@ class Dialogue:
 
     def complained(self, line: str) -> Optional[Asked]:
         """Takes a line of standard error. Gives the row that it refuses, if it does."""
-        found = REFUSED_ROW.match(line)
-        if found is None:
-            return None
+        number = refused_row(line)
         for asked in (it for lane in self.open.values() for it in lane):
-            if asked.row == int(found.group(2)):
+            if asked.row == number:
                 self.open[asked.lane].remove(asked)
                 asked.fault = RefusedInput("live", asked.row, None, asked.text.strip(), reason=line)
                 return asked

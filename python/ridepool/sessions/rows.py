@@ -1,11 +1,12 @@
 """The rows that `ridepool live` is sent. All of a day stand in one round, so that no row waits for another lane."""
 
-from typing import Iterable, List, Sequence
+from typing import Iterable, List, Optional, Sequence
 
 from ridepool.report.reader import Entry, entry_of
 from ridepool.words import Fault
 
 HEADER = "round,lane,command,a,b,c,d,e"
+REFUSAL = "ridepool: script: "
 RIDER_LANES, VEHICLE_LANES = range(1, 12), range(12, 16)
 
 
@@ -27,6 +28,22 @@ def row_of(lane: int, command: str, fields: Sequence[int], party: int = 1, round
 def entrys_row(entry: Entry) -> str:
     """The row that an entry of a transcript answers."""
     return row_of(entry.lane, entry.command, entry.fields, entry.party)
+
+
+def refused_row(line: str) -> Optional[int]:
+    """The number of the row that a line of standard error refuses, in one of the forms that it has: `row N ..`, `.. at row N`
+    or `.. at row N column M`. None where the line says something else.
+
+    >>> refused_row("ridepool: script: bad number at row 7 column 3"), refused_row("ridepool: out of memory")
+    (7, None)
+    """
+    if not line.startswith(REFUSAL):
+        return None
+    words = line[len(REFUSAL):].split(" ")
+    if words[-2:-1] == ["column"]:
+        words = words[:-2]
+    number = words[1] if words[0] == "row" and len(words) > 1 else words[-1] if words[-3:-1] == ["at", "row"] else ""
+    return int(number) if number.isdecimal() else None
 
 
 def entries_of(lines: Iterable[str]) -> List[Entry]:

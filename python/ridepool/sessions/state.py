@@ -1,9 +1,9 @@
 """What a transcript says line by line: each ride, each vehicle with its next stops, each batch."""
 
 from dataclasses import dataclass, field
-from typing import Optional
+from typing import Any, Dict, Iterable, List, Optional, Sequence, Set, Tuple, Union
 
-from ridepool.report.reader import Reader
+from ridepool.report.reader import Batch, Entry, Reader, Stop
 
 ENDED = ("delivered", "cancelled", "expired")
 STATES = ("waiting", "promised", "aboard", *ENDED)
@@ -24,7 +24,7 @@ class Ride:
     dropoff: Optional[int] = None
     left_out: bool = False
 
-    def view(self):
+    def view(self) -> Dict[str, Any]:
         """The ride in the words of the desk's answers."""
         return {
             "ride": self.ride, "state": self.state, "from": self.origin, "to": self.destination,
@@ -41,8 +41,8 @@ class Vehicle:
     seats: int
     node: int
     second: int
-    aboard: list = field(default_factory=list)
-    stops: list = field(default_factory=list)
+    aboard: List[int] = field(default_factory=list)
+    stops: List[Stop] = field(default_factory=list)
     move: Optional[int] = None
 
 
@@ -50,20 +50,23 @@ class Vehicle:
 class Change:
     """What a line changed: an entry or a closed batch, with the rides and vehicles that are different now."""
 
-    entry: Optional[object] = None
-    batch: Optional[object] = None
-    rides: set = field(default_factory=set)
-    vehicles: set = field(default_factory=set)
+    entry: Optional[Entry] = None
+    batch: Optional[Batch] = None
+    rides: Set[int] = field(default_factory=set)
+    vehicles: Set[int] = field(default_factory=set)
 
 
 class Lines(Reader):
     """Reads a transcript as it grows, and keeps no more of it than the last entry and batch."""
 
-    def __init__(self):
+    def __init__(self) -> None:
         super().__init__()
-        self.count, self.first, self.last, self.closed = 0, [], None, None
+        self.count = 0
+        self.first: List[str] = []
+        self.last_entry: Optional[Entry] = None
+        self.closed: Optional[Batch] = None
 
-    def line(self, text):
+    def line(self, text: str) -> Union[Entry, Batch, None]:
         """A line of the transcript. Gives the entry or the closed batch that it completes, if so."""
         self.last_entry = self.closed = None
         if self.report is None:
@@ -76,54 +79,55 @@ class Lines(Reader):
             self.closed = self.report.batches.pop()
         return self.last_entry or self.closed
 
-    def entry(self, entry):
+    def entry(self, entry: Entry) -> None:
         """A command's line, whose position must be the next one."""
         if entry.position != self.count:
             raise ValueError
         self.count += 1
         if entry.command == "seal" and entry.reply.startswith("sealed "):
             self.seals = {int(entry.reply.split(" ")[1]): entry.fields[0]}
-        self.report.entries = [entry]
+        self.begun.entries = [entry]
         self.last_entry = entry
 
 
 class State:
     """The book as the transcript tells it. Nothing is decided here: only what was answered is taken over."""
 
-    def __init__(self, fleet):
+    def __init__(self, fleet: Iterable[Vehicle]) -> None:
         self.lines = Lines()
-        self.rides = {}
-        self.asked = []  # the rides' numbers in the order in which they were taken
+        self.rides: Dict[int, Ride] = {}
+        self.asked: List[int] = []  # the rides' numbers in the order in which they were taken
         self.vehicles = {it.vehicle: it for it in fleet}
-        self.pool = set()
-        self.batches = {}
-        self.sealing = None  # the open batch and its riders
+        self.pool: Set[int] = set()
+        self.batches: Dict[int, Dict[str, Any]] = {}
+        self.sealing: Optional[Tuple[int, Set[int]]] = None  # the open batch and its riders
 
-    def line(self, text):
+    def line(self, text: str) -> Optional[Change]:
         """Takes a line of the transcript. Gives the Change, or None where nothing changed."""
         found = self.lines.line(text)
         if found is None:
             return None
-        if found is self.lines.closed:
+        if isinstance(found, Batch):
             return self.closed(found)
         change = Change(entry=found)
         if not found.reply.startswith("refused"):
             getattr(self, found.command)(change, *found.fields)
         return change
 
-    def submit(self, change, rider, origin, destination, second):
+    def submit(self, change: Change, rider: int, origin: int, destination: int, second: int) -> None:
+        assert change.entry is not None
         self.asked.append(rider)
         self.rides[rider] = Ride(rider, origin, destination, second, change.entry.party)
         self.pool.add(rider)
         change.rides.add(rider)
 
-    def cancel(self, change, rider):
+    def cancel(self, change: Change, rider: int) -> None:
         self.end(change, rider, "cancelled")
 
-    def report(self, change, vehicle, node, second):
+    def report(self, change: Change, vehicle: int, node: int, second: int) -> None:
         self.place(change, vehicle, node, second)
 
-    def pickup(self, change, vehicle, rider, second):
+    def pickup(self, change: Change, vehicle: int, rider: int, second: int) -> None:
         ride = self.rides[rider]
         self.pool.discard(rider)
         ride.state, ride.vehicle, ride.pickup, ride.left_out = "aboard", vehicle, second, False
@@ -131,26 +135,27 @@ class State:
         self.place(change, vehicle, ride.origin, second)
         change.rides.add(rider)
 
-    def dropoff(self, change, vehicle, rider, second):
+    def dropoff(self, change: Change, vehicle: int, rider: int, second: int) -> None:
         ride = self.rides[rider]
         ride.state, ride.dropoff = "delivered", second
         self.vehicles[vehicle].aboard.remove(rider)
         self.place(change, vehicle, ride.destination, second)
         change.rides.add(rider)
 
-    def seal(self, change, second):
+    def seal(self, change: Change, second: int) -> None:
+        assert change.entry is not None
         riders = {it for it in self.pool if self.rides[it].second <= second}
         self.sealing = (int(change.entry.reply.split(" ")[1]), riders)
 
-    def close(self, change, batch):
+    def close(self, change: Change, batch: int) -> None:
         """The close's own line. What it changes stands in the block behind it."""
 
-    def place(self, change, vehicle, node, second):
+    def place(self, change: Change, vehicle: int, node: int, second: int) -> None:
         it = self.vehicles[vehicle]
         it.node, it.second = node, second
         change.vehicles.add(vehicle)
 
-    def end(self, change, rider, how):
+    def end(self, change: Change, rider: int, how: str) -> None:
         """A ride that is over before the rider got in."""
         ride = self.rides[rider]
         self.pool.discard(rider)
@@ -159,8 +164,10 @@ class State:
         ride.state, ride.vehicle, ride.pickup, ride.dropoff = how, None, None, None
         change.rides.add(rider)
 
-    def closed(self, batch):
+    def closed(self, batch: Batch) -> Change:
         """A batch's whole block: who expired, and, but for an overflow, every vehicle's next stops."""
+        if self.sealing is None:
+            raise ValueError("a block without its seal")
         change, (_, riders) = Change(batch=batch), self.sealing
         for rider in batch.expired:
             if rider in self.pool:
@@ -171,12 +178,12 @@ class State:
         self.batches[batch.number], self.sealing = batch_view(batch, self.waits(batch)), None
         return change
 
-    def waits(self, batch):
+    def waits(self, batch: Batch) -> List[int]:
         """The seconds from request to pickup of those whom the plan picks up."""
         return [stop.second - self.rides[stop.rider].second
                 for trip in batch.trips for stop in trip.stops if stop.kind == "pick"]
 
-    def promise(self, change, batch, riders):
+    def promise(self, change: Change, batch: Batch, riders: Set[int]) -> None:
         """Those who still wait are promised to whose trip picks them up; the others wait on."""
         picks = {stop.rider: (trip.vehicle, stop.second)
                  for trip in batch.trips for stop in trip.stops if stop.kind == "pick"}
@@ -187,7 +194,7 @@ class State:
             ride.dropoff, ride.left_out = None, rider not in picks
             change.rides.add(rider)
 
-    def drive(self, change, batch):
+    def drive(self, change: Change, batch: Batch) -> None:
         """Each vehicle's stops and moves are those of this plan alone."""
         for vehicle in self.vehicles.values():
             if vehicle.stops or vehicle.move:
@@ -205,26 +212,26 @@ class State:
             self.vehicles[move.vehicle].move = self.rides[move.rider].origin
             change.vehicles.add(move.vehicle)
 
-    def stops(self, number):
+    def stops(self, number: int) -> List[Tuple[str, int, int, Optional[int]]]:
         """A vehicle's next stops as (kind, rider, node, second). A passenger whose drop-off no plan has comes last."""
         vehicle = self.vehicles[number]
         vehicle.stops = [it for it in vehicle.stops if self.lies_ahead(vehicle, it)]
-        stops = [(it.kind, it.rider, it.node, it.second) for it in vehicle.stops]
+        stops: List[Tuple[str, int, int, Optional[int]]] = [(it.kind, it.rider, it.node, it.second) for it in vehicle.stops]
         planned = {it.rider for it in vehicle.stops}
         return stops + [("drop", it, self.rides[it].destination, None) for it in vehicle.aboard if it not in planned]
 
-    def lies_ahead(self, vehicle, stop):
+    def lies_ahead(self, vehicle: Vehicle, stop: Stop) -> bool:
         """Whether a planned stop is still to be made."""
         ride = self.rides[stop.rider]
         if ride.vehicle != vehicle.vehicle:
             return False
         return ride.state == "promised" or (stop.kind == "drop" and ride.state == "aboard")
 
-    def persons(self, number):
+    def persons(self, number: int) -> int:
         """How many persons are aboard a vehicle."""
         return sum(self.rides[it].party for it in self.vehicles[number].aboard)
 
-    def vehicle_view(self, number):
+    def vehicle_view(self, number: int) -> Dict[str, Any]:
         """A vehicle in the words of the desk's answers."""
         it = self.vehicles[number]
         stops = [{"kind": kind, "ride": ride, "node": node, "second": second}
@@ -235,10 +242,12 @@ class State:
         }
 
 
-def batch_view(batch, waits):
+def batch_view(batch: Batch, waits: Sequence[int]) -> Dict[str, Any]:
     """A batch in the words of the desk's answers, with the seconds that those whom it picks up wait."""
     if batch.overflow:
         return {"batch": batch.number, "second": batch.second, "overflow": True, "expired": batch.expired}
+    if batch.cost is None or batch.bound is None:
+        raise ValueError("a block without its cost")
     return {
         "batch": batch.number, "second": batch.second, "overflow": False, "served": len(waits),
         "left_out": batch.out, "expired": batch.expired, "lapsed": batch.lapsed,

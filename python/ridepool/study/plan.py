@@ -1,8 +1,8 @@
 """Reads STUDY.toml: the settings of each cell, and what the days are made of."""
 
 import itertools
-from collections import namedtuple
 from dataclasses import dataclass
+from typing import Any, Dict, List, Mapping, NamedTuple, Optional, Sequence, Union
 
 from ridepool.inputs import made_city
 from ridepool.inputs import tables
@@ -34,19 +34,40 @@ OF_THE_CALL = ("wait", "delay", "trip", "penalty", "budget", "pairs", "dwell", "
 FILES = ("network", "nodes", "trips")
 SPAN = ("from", "to", "zone", "far")
 
-Cell = namedtuple("Cell", (*SETTINGS, "split"), defaults=SPLITS[:1])
+Value = Union[int, str]
+
+
+class Cell(NamedTuple):
+    """A cell: a value of each of SETTINGS, in their order, and how riders are parted."""
+
+    vehicles: int
+    seats: int
+    wait: int
+    delay: int
+    every: int
+    trip: int
+    seed: int
+    demand: int
+    zones: int
+    penalty: int
+    budget: int
+    pairs: int
+    dwell: int
+    workers: int
+    fleets: int
+    split: str = SPLITS[0]
 
 
 @dataclass(frozen=True)
 class Plan:
     """A study: its cells in their order, and the words of [city] or [files], of which one is None."""
 
-    cells: list
-    city: dict
-    files: dict
+    cells: List[Cell]
+    city: Optional[Dict[str, str]]
+    files: Optional[Dict[str, str]]
 
 
-def values_of(path, name, given):
+def values_of(path: str, name: str, given: object) -> List[Value]:
     """The values of a setting: a whole number or, of `split`, a name; or a list of them."""
     values = given if isinstance(given, list) else [given]
     if name == "split":
@@ -61,7 +82,7 @@ def values_of(path, name, given):
     return values
 
 
-def table_of(path, study, name, keys):
+def table_of(path: str, study: Mapping[str, Any], name: str, keys: Sequence[str]) -> Optional[Dict[str, Any]]:
     """A table of the file whose keys must be among these; None where it isn't there."""
     table = study.get(name)
     if table is None:
@@ -74,10 +95,11 @@ def table_of(path, study, name, keys):
     return table
 
 
-def cells_of(path, study):
+def cells_of(path: str, study: Mapping[str, Any]) -> List[Cell]:
     """The cells, each once: all combinations of the first [[grid]], then those of the next."""
-    common, cells = table_of(path, study, "all", Cell._fields) or {}, {}
-    default = {**{name: value for name, (_, _, value) in SETTINGS.items()}, "split": SPLITS[0]}
+    common = table_of(path, study, "all", Cell._fields) or {}
+    cells: Dict[Cell, None] = {}
+    default: Dict[str, Value] = {**{name: value for name, (_, _, value) in SETTINGS.items()}, "split": SPLITS[0]}
     blocks = study.get("grid", [])
     if not isinstance(blocks, list) or not blocks:
         raise Fault(f"{path}: no [[grid]]")
@@ -88,19 +110,19 @@ def cells_of(path, study):
     return list(cells)
 
 
-def whole(path, cell):
+def whole(path: str, cell: Cell) -> Cell:
     """A cell as it is driven. `zones=N` says `fleets=N split=zones`; one fleet takes all riders."""
     if cell.zones > 1 and cell.fleets > 1:
         raise Fault(f"{path}: zones = {cell.zones} and fleets = {cell.fleets}: name one of the two")
     return cell._replace(split=SPLITS[0]) if cell.fleets == 1 else cell
 
 
-def texts_of(table):
+def texts_of(table: Optional[Dict[str, Any]]) -> Optional[Dict[str, str]]:
     """The words of a table as they would stand on a command line."""
     return None if table is None else {key: str(value) for key, value in table.items()}
 
 
-def read_plan(path):
+def read_plan(path: str) -> Plan:
     """The study of a file."""
     import tomllib
 

@@ -1,48 +1,52 @@
 """Parts the nodes of a city into zones of about equal demand, by k-means on coordinates."""
 
+from typing import Any, List, Sequence, Tuple
+
+import numpy as np
+import numpy.typing as npt
+
 from ridepool.words import Fault
 
 STEPS, EVEN = 400, 0.01
+Array = npt.NDArray[Any]
 
 
-def zones_of(places, demand, count, seed):
+def zones_of(places: Sequence[Tuple[float, float]], demand: Sequence[int], count: int, seed: int) -> List[int]:
     """The zone of each node, from 0: k-means puts a centre where the demand is, and a node belongs to the centre
     nearest to it, where a zone with too little demand counts as nearer."""
-    import numpy
     from scipy.cluster.vq import kmeans2
 
-    places, demand = numpy.array(places, float), numpy.array(demand)
+    at, riders = np.array(places, float), np.array(demand)
     if count == 1:
-        return [0] * len(places)
-    if (demand > 0).sum() < count:
-        raise Fault(f"zones={count}: riders begin at {(demand > 0).sum()} nodes alone")
-    points = numpy.repeat(places, demand, axis=0)
+        return [0] * len(at)
+    if (riders > 0).sum() < count:
+        raise Fault(f"zones={count}: riders begin at {(riders > 0).sum()} nodes alone")
+    points = np.repeat(at, riders, axis=0)
     centres, _ = kmeans2(points, count, minit="++", seed=seed)
-    squares = ((places[:, None, :] - centres[None, :, :]) ** 2).sum(axis=2)
-    return [int(zone) for zone in evened(squares, demand)]
+    squares = ((at[:, None, :] - centres[None, :, :]) ** 2).sum(axis=2)
+    return [int(zone) for zone in evened(squares, riders)]
 
 
-def evened(squares, demand):
+def evened(squares: Array, demand: Array) -> Array:
     """The zone of each node, by its squared distances to the centres less a number for each zone, found step by step:
     it grows where the zone has less than its part of the demand."""
-    import numpy
-
     count = squares.shape[1]
     part, step = demand.sum() / count, squares.min(axis=1).mean()
-    nearer, best = numpy.zeros(count), (numpy.inf, None)
+    nearer, least = np.zeros(count), np.inf
+    best: Array = squares.argmin(axis=1)
     for at in range(STEPS):
         zones = (squares - nearer).argmin(axis=1)
-        loads = numpy.bincount(zones, weights=demand, minlength=count) / part
+        loads = np.bincount(zones, weights=demand, minlength=count) / part
         uneven = abs(loads - 1).max()
-        if uneven < best[0]:
-            best = uneven, zones
+        if uneven < least:
+            least, best = uneven, zones
         if uneven < EVEN:
             break
         nearer += step * (1 - loads) * 10 / (10 + at)
-    return best[1]
+    return best
 
 
-def parts_of(whole, weights):
+def parts_of(whole: int, weights: Sequence[float]) -> List[int]:
     """Whole numbers, at least 1 each, that add up to `whole` and are in proportion to weights: largest remainders."""
     rest, total = whole - len(weights), sum(weights)
     shares = [rest * weight / total for weight in weights]

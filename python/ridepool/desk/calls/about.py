@@ -3,9 +3,10 @@
 from __future__ import annotations
 
 import asyncio
-from typing import Any, AsyncIterator
+import re
+from typing import Any, AsyncIterator, List, Tuple
 
-from fastapi import FastAPI, HTTPException, Request
+from fastapi import FastAPI, HTTPException, Query, Request
 from fastapi.responses import Response, StreamingResponse
 from starlette.background import BackgroundTask
 
@@ -14,6 +15,8 @@ from ridepool.desk.calls.shared import Desk, answered, answers
 from ridepool.desk.metrics import TYPE
 
 QUIET_SECONDS = 3
+MOST_PAIRS = 100
+PAIRS = re.compile(r"[0-9]{1,10}-[0-9]{1,10}(,[0-9]{1,10}-[0-9]{1,10})*")
 
 
 def add_desk(app: FastAPI, desk: Desk) -> None:
@@ -34,6 +37,14 @@ def add_desk(app: FastAPI, desk: Desk) -> None:
     async def network() -> Response:
         """Nodes with their places on the map, and streets. The settings that a page needs stand beside them."""
         return Response(desk.network(), media_type="application/json")
+
+    @app.get("/ways", tags=["desk"], responses=answers({"ways": [[1, 2, 5], None]}))
+    async def ways(pairs: str = Query(...)) -> Response:
+        """Shortest ways between pairs of nodes, written such as `1-5,5-9`, at most 100 of them: the nodes of each, both
+        ends included; null where there is none."""
+        wanted = pairs_of(desk, pairs)
+        async with desk.searching:
+            return answered(200, {"ways": await asyncio.to_thread(desk.ways.all, wanted)})
 
     @app.get("/metrics", tags=["desk"])
     async def metrics() -> Response:
@@ -56,6 +67,17 @@ def add_desk(app: FastAPI, desk: Desk) -> None:
         return StreamingResponse(stream(desk, request, queue), media_type="text/event-stream",
                                  headers={"cache-control": "no-store", "x-accel-buffering": "no"},
                                  background=BackgroundTask(desk.dispatcher.listeners.discard, queue))
+
+
+def pairs_of(desk: Desk, text: str) -> List[Tuple[int, int]]:
+    """The pairs of nodes of a text; 422 where there are none such."""
+    if not PAIRS.fullmatch(text) or text.count(",") >= MOST_PAIRS:
+        raise HTTPException(422, f"pairs: give at most {MOST_PAIRS} pairs of nodes such as 1-5,5-9")
+    pairs = [(int(start), int(goal)) for start, _, goal in (it.partition("-") for it in text.split(","))]
+    unknown = [node for pair in pairs for node in pair if node not in desk.places.at]
+    if unknown:
+        raise HTTPException(422, f"pairs: there is no node {unknown[0]}")
+    return pairs
 
 
 async def stream(desk: Desk, request: Request, queue: "asyncio.Queue[Any]") -> AsyncIterator[str]:

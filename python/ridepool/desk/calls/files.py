@@ -9,8 +9,9 @@ from fastapi.responses import FileResponse, Response
 
 PAGE = pathlib.Path(__file__).resolve().parent.parent / "page"
 LEAFLET = pathlib.Path("/usr/share/javascript/leaflet")
-PARTS = ("desk.css", "desk.js", "alarm.js", "map.js", "shapes.js", "lists.js", "words.js", "ways.js", "calls.js", "icon.svg",
-         "stream.js", "shared.js", "events.js", "phone.css", "phone.js", "drive.js", "ride.js", "presses.js")
+PARTS = ("desk.css", "desk.js", "alarm.js", "map.js", "shapes.js", "lists.js", "words.js", "known_ways.js", "calls.js",
+         "icon.svg", "stream.js", "shared.js", "events.js", "make.js", "chosen.js", "search.js", "day.js", "plans.js",
+         "phone.css", "phone.js", "drive.js", "ride.js", "presses.js")
 FILES = {
     "/": PAGE / "index.html", "/docs": PAGE / "calls.html", "/drive": PAGE / "drive.html", "/ride/{number}": PAGE / "ride.html",
     **{f"/{name}": PAGE / name for name in PARTS},

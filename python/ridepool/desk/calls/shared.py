@@ -2,8 +2,9 @@
 
 from __future__ import annotations
 
+import asyncio
 import json
-from typing import Any, Dict, List, Optional, Sequence, Tuple
+from typing import Any, Dict, Optional, Sequence, Tuple
 
 from fastapi import HTTPException
 from fastapi.responses import JSONResponse, Response
@@ -11,6 +12,7 @@ from fastapi.responses import JSONResponse, Response
 from ridepool.desk.contacts import Contacts
 from ridepool.desk.dispatcher import Dispatcher
 from ridepool.desk.mistakes import LastEntered
+from ridepool.desk.ways import Ways
 from ridepool.inputs.roads import Places
 from ridepool.sessions.state import Ride, State
 
@@ -37,11 +39,13 @@ TEXTS = {
 
 
 class Desk:
-    """The calls over a dispatcher, the places of its nodes and its streets. `page` is what the page has to know."""
+    """The calls over a dispatcher, the places of its nodes, its streets and the ways over them. `page` is what the page has
+    to know."""
 
-    def __init__(self, dispatcher: Dispatcher, places: Places, streets: List[Sequence[int]], page: Dict[str, Any]) -> None:
-        self.dispatcher, self.places, self.streets = dispatcher, places, streets
-        self.entered, self.page = LastEntered(), page
+    def __init__(self, dispatcher: Dispatcher, places: Places, streets: Sequence[Sequence[int]], ways: Ways,
+                 page: Dict[str, Any]) -> None:
+        self.dispatcher, self.places, self.streets, self.ways = dispatcher, places, streets, ways
+        self.entered, self.page, self.searching = LastEntered(), page, asyncio.Lock()
         self.network_text: Optional[bytes] = None
 
     @property
@@ -91,7 +95,7 @@ class Desk:
 
     def second(self, given: Optional[int], most: int = MOST_AHEAD) -> int:
         """The second of a command: the given one, or now. Where it is too far ahead, that is 422."""
-        now = self.dispatcher.clock.now()
+        now: int = self.dispatcher.clock.now()
         if given is not None and given > now + most:
             raise HTTPException(422, f"second {given} is more than {most} s ahead of now, second {now}")
         return now if given is None else given
@@ -120,14 +124,14 @@ class Desk:
 
     def ride_view(self, ride: Ride) -> Dict[str, Any]:
         """A ride with the seconds from now."""
-        view, now = self.dispatcher.ride_view(ride), self.dispatcher.clock.now()
+        view: Dict[str, Any] = self.dispatcher.ride_view(ride)
+        now = self.dispatcher.clock.now()
         ahead = ride.state in ("promised", "aboard")
         view["wait_time"] = ride.pickup - now if ride.state == "promised" and ride.pickup is not None else None
         view["arrival_time"] = ride.dropoff - now if ahead and ride.dropoff is not None else None
         due = ride.pickup if ride.state == "promised" else ride.dropoff if ride.state == "aboard" else None
         view["late"] = max(0, now - due) if due is not None else None
-        known = ride.pickup is not None and ride.dropoff is not None
-        view["travel_time"] = ride.dropoff - ride.pickup if known else None  # type: ignore[operator]
+        view["travel_time"] = None if ride.pickup is None or ride.dropoff is None else ride.dropoff - ride.pickup
         return view
 
 

@@ -3,16 +3,22 @@
 import { DeskMap } from "./map.js";
 import { KeyedList, makeTabs } from "./lists.js";
 import { Alarm } from "./alarm.js";
+import { ChosenBox } from "./chosen.js";
+import { DayPanel } from "./day.js";
 import { Events } from "./events.js";
-import { due, isAhead, isOpen, moment, persons, rideWords, span, troubleKey, troubleWords, vehicleWords } from "./words.js";
+import { byId, make, write } from "./make.js";
+import { KnownWays } from "./known_ways.js";
+import { planRow } from "./plans.js";
+import { Search } from "./search.js";
+import { clockTime, clockTitle, due, isAhead, isBooked, isOpen, lateness, rideWords, setDay, stateWord, troubleKey, troubleWords, vehicleWords,
+  waitWords, wantedSecond } from "./words.js";
 
 const LOST_AFTER = 8000, SHOWN_BATCHES = 20, SHOWN_OVER = 100, KEPT_OVER = 200;
-const byId = id => document.getElementById(id);
 const rides = new Map(), vehicles = new Map();
 let batches = [], network = null, map = null, chosen = null, panel = "rides", dirty = false;
 let clock = { second: 0, speed: 0, at: 0 }, health = { status: "connecting", why: "" }, heard = 0, solvingSince = null;
 let delivered = 0, over = [], troubles = { count: 0, late: 0, expired: 0, lapsed: 0, trouble: [] };
-let stream = null, refused = false, beginning = null;
+let stream = null, refused = false, beginning = null, box = null, day = null;
 const alarm = new Alarm(), title = document.title;
 
 // Seconds of the book now.
@@ -91,6 +97,8 @@ const events = {
       map.placeVehicle(vehicle);
     }
   },
+  ride: takeRide,
+  vehicle: takeVehicle,
   status: takeHealth,
   clock: takeHealth,
 };
@@ -148,11 +156,12 @@ function drawBar() {
   if (bar.className !== state) bar.className = state;
   write("status-text", text);
   write("status-seconds", seconds);
-  write("clock", moment(now()) + (clock.speed > 1 ? ` ×${clock.speed}` : ""));
-  const counts = { waiting: 0, promised: 0, aboard: 0 };
+  write("clock", clockTime(now()) + (clock.speed > 1 ? ` ×${clock.speed}` : ""));
+  const counts = { booked: 0, waiting: 0, promised: 0, aboard: 0 };
   let out = 0;
   for (const ride of rides.values()) {
-    if (ride.state in counts) counts[ride.state]++;
+    if (isBooked(ride, now())) counts.booked++;
+    else if (ride.state in counts) counts[ride.state]++;
     if (ride.left_out && isAhead(ride)) out++;
   }
   for (const [name, count] of Object.entries(counts)) write("count-" + name, count);
@@ -187,13 +196,10 @@ function openTrouble(key) {
 function openThing(kind, number) {
   select(kind, number);
   const thing = (kind === "ride" ? rides : vehicles).get(number);
+  if (!thing) return say(`Rider ${number} isn't among those on this page.`, true);
   map.follow(kind === "ride" ? map.at.get(thing.from) : thing.place ? thing.place.slice(0, 2) : map.at.get(thing.node));
   byId("map-area").scrollIntoView({ block: "nearest" });
-}
-
-function write(id, text) {
-  const element = byId(id);
-  if (element.textContent !== String(text)) element.textContent = text;
+  return null;
 }
 
 const RANKS = { waiting: 1, promised: 2, aboard: 3, delivered: 4, cancelled: 4, expired: 4 };
@@ -204,29 +210,59 @@ const lists = {
   vehicles: new KeyedList(document.querySelector("#vehicles .list"), "vehicle", vehicle => vehicleWords(vehicle, now()), select),
 };
 
+// What the lists' filters let through.
+const RIDES = {
+  all: () => true, waiting: it => it.state === "waiting" && !isBooked(it, now()), booked: it => isBooked(it, now()),
+  promised: it => it.state === "promised", aboard: it => it.state === "aboard", out: it => it.left_out && isAhead(it), over: it => !isOpen(it),
+};
+const VEHICLES = {
+  all: () => true, late: it => lateness(it, now()) > 0, free: it => !it.stops.length && !it.out, riders: it => it.persons > 0, out: it => it.out,
+};
+
+// Whether the filters let a ride or a vehicle onto the map. Booked rides are there where they are asked for.
+function lets(kind, item) {
+  if (kind === "vehicle") return VEHICLES[byId("filter-vehicles").value](item);
+  const value = byId("filter-rides").value;
+  return value === "all" ? !isBooked(item, now()) : RIDES[value](item);
+}
+
+// Draws lists and map by the filters, and says on the map that it doesn't show all.
+function filter() {
+  const chosen = ["rides", "vehicles"].map(it => byId(`filter-${it}`)).filter(it => it.value !== "all");
+  byId("map-filter").hidden = !chosen.length;
+  write("map-filter", `Shown alone: ${chosen.map(it => it.dataset.words + it.selectedOptions[0].textContent).join("; ")}`);
+  drawList();
+  map.change();
+}
+
+// The order of rides that aren't over: booked ones last, who was left out first, then by state and time.
+function byUrgency(a, b) {
+  const out = it => it.left_out && isAhead(it);
+  return isBooked(a, now()) - isBooked(b, now()) || out(b) - out(a) || RANKS[a.state] - RANKS[b.state] || a.time - b.time || a.ride - b.ride;
+}
+
+// What stands in place of an empty list of riders.
+function nobody() {
+  return byId("filter-rides").value === "all" ? "Nobody has asked yet." : "No ride is of this kind now.";
+}
+
 function drawList() {
   lists.trouble.show(troubles.trouble.map(it => [troubleKey(it), it]));
   if (panel === "rides") {
     const all = [...rides.values()], over = all.filter(it => !isOpen(it)).sort((a, b) => b.ride - a.ride);
-    const open = all.filter(isOpen).sort((a, b) => (b.left_out && isAhead(b)) - (a.left_out && isAhead(a)) || RANKS[a.state] - RANKS[b.state] || a.time - b.time || a.ride - b.ride);
-    lists.rides.show([...open, ...over.slice(0, SHOWN_OVER)].map(it => [it.ride, it]));
+    const open = all.filter(isOpen).sort(byUrgency);
+    document.querySelector("#rides .empty").textContent = nobody();
+    lists.rides.show([...open, ...over.slice(0, SHOWN_OVER)].filter(RIDES[byId("filter-rides").value]).map(it => [it.ride, it]));
   } else if (panel === "vehicles") {
-    lists.vehicles.show([...vehicles.values()].sort((a, b) => a.vehicle - b.vehicle).map(it => [it.vehicle, it]));
+    const shown = [...vehicles.values()].filter(VEHICLES[byId("filter-vehicles").value]).sort((a, b) => a.vehicle - b.vehicle);
+    lists.vehicles.show(shown.map(it => [it.vehicle, it]));
   }
 }
 
 function drawBatches() {
-  const rows = batches.map(batch => {
-    const cells = batch.overflow ? [batch.batch, "nothing planned: too many pairs", "", batch.expired.length, "", "", "", "", "", ""]
-      : [batch.batch, batch.served, batch.left_out.length, batch.expired.length, batch.lapsed.length, batch.late.length, batch.mean_wait === null ? "–" : span(batch.mean_wait),
-        batch.worst_wait === null ? "–" : span(batch.worst_wait), batch.gap, batch.seconds === undefined ? "–" : `${batch.seconds.toFixed(2)} s`];
-    const row = document.createElement("tr");
-    for (const cell of cells) row.append(Object.assign(document.createElement("td"), { textContent: cell }));
-    return row;
-  });
   const table = document.querySelector("#batches table");
-  table.classList.toggle("some", rows.length > 0);
-  table.tBodies[0].replaceChildren(...rows);
+  table.classList.toggle("some", batches.length > 0);
+  table.tBodies[0].replaceChildren(...batches.map(planRow));
 }
 
 // --- what is chosen -------------------------------------------------------------------------------------------
@@ -237,82 +273,38 @@ function select(kind, number) {
   lists.rides.choose(kind === "ride" ? number : null);
   lists.vehicles.choose(kind === "vehicle" ? number : null);
   const ride = kind === "ride" && rides.get(number), vehicle = kind === "vehicle" && vehicles.get(number);
+  drawChosen();
   if (ride && isOpen(ride)) map.follow(map.at.get(ride.from));
   if (vehicle) map.follow(vehicle.place ? vehicle.place.slice(0, 2) : map.at.get(vehicle.node));
-  byId("chosen").dataset.key = "";
-  drawChosen();
 }
 
-function make(tag, text, ...children) {
-  const element = document.createElement(tag);
-  if (text) element.textContent = text;
-  element.append(...children);
-  return element;
-}
-
-function button(text, action) {
-  const element = make("button", text);
-  element.type = "button";
-  element.addEventListener("click", action);
-  return element;
+// How much of the map's lower edge the box of what is chosen covers, in pixels.
+function covered() {
+  if (byId("chosen").hidden) return 0;
+  return Math.max(0, byId("map").getBoundingClientRect().bottom - byId("chosen").getBoundingClientRect().top);
 }
 
 function drawChosen() {
-  const box = byId("chosen"), item = chosen && (chosen.kind === "ride" ? rides : vehicles).get(chosen.number);
-  box.hidden = !item;
-  if (!item) return;
-  const key = JSON.stringify([chosen, { ...item, place: null }, Math.floor(now() / Math.max(1, clock.speed))]);
-  if (box.dataset.key === key) return;
-  const had = box.contains(document.activeElement) && document.activeElement.textContent;
-  box.dataset.key = key;
-  box.replaceChildren(...(chosen.kind === "ride" ? rideParts(item) : vehicleParts(item)));
-  if (had) [...box.querySelectorAll("button")].find(it => it.textContent === had)?.focus();
+  const item = chosen && (chosen.kind === "ride" ? rides : vehicles).get(chosen.number);
+  if (box) box.show(chosen && chosen.kind, item);
 }
 
-function heading(text) {
-  return make("header", "", make("h2", text), button("Close", () => select(null, null)));
+// What is known of a rider, in a question that can be changed.
+async function contact(number) {
+  const known = await ask(`rides/${number}/contact`);
+  if (!known) return say("What is known of the rider couldn't be had.", true);
+  for (const name of ["who", "phone", "note"]) byId(`contact-${name}`).value = known[name] || "";
+  byId("contact").dataset.ride = number;
+  byId("contact-title").textContent = `Who is rider ${number}?`;
+  return byId("contact").showModal();
 }
 
-function rideParts(ride) {
-  const parts = [heading(`Rider ${ride.ride}: ${ride.left_out && isAhead(ride) ? "left out of the last plan" : ride.state}`)];
-  parts.push(make("p", `${persons(ride.persons)} from ${ride.from} to ${ride.to}, asked at ${moment(ride.time)}.`));
-  if (ride.state === "promised") parts.push(make("p", `Vehicle ${ride.vehicle} ${ride.pickup_second < now() ? "is" : "comes"} ${due(ride.pickup_second, now())}.`));
-  if (ride.state === "aboard") parts.push(make("p", `Aboard vehicle ${ride.vehicle} since ${moment(ride.pickup_second)}.`));
-  if (isOpen(ride) && ride.drop_off_second !== null) parts.push(make("p", `Arrival ${due(ride.drop_off_second, now())}.`));
-  const buttons = make("div");
-  buttons.className = "buttons";
-  if (isOpen(ride) && ride.vehicle !== null) buttons.append(button(`Show vehicle ${ride.vehicle}`, () => select("vehicle", ride.vehicle)));
-  if (isAhead(ride)) buttons.append(button("Cancel this ride", () => send("DELETE", `rides/${ride.ride}`, null, () => `Ride ${ride.ride} is cancelled.`)));
-  return buttons.childElementCount ? [...parts, buttons] : parts;
-}
-
-function vehicleParts(vehicle) {
-  const parts = [heading(`Vehicle ${vehicle.vehicle}: ${vehicle.persons} of ${vehicle.max_capacity} seats taken`)];
-  parts.push(make("p", `Last seen at node ${vehicle.node}, free from ${moment(vehicle.second)}.`));
-  const list = make("ol");
-  for (const stop of vehicle.stops) {
-    const when = stop.second === null ? "no plan has the second" : due(stop.second, now());
-    list.append(make("li", `${stop.kind === "pick" ? "▲ pick up" : "▼ drop off"} rider ${stop.ride} at node ${stop.node}, ${when}`));
-  }
-  if (vehicle.stops.length) parts.push(list);
-  else parts.push(make("p", vehicle.move === null ? "No stops ahead." : `Drives toward node ${vehicle.move}, where a rider was left out.`));
-  const next = vehicle.stops[0];
-  if (!network.drivers) parts.push(vehicleButtons(vehicle, next));
-  return parts;
-}
-
-// What can be entered of a vehicle: its next stop, and that its last entry was a mistake.
-function vehicleButtons(vehicle, next) {
-  const buttons = make("div"), path = `vehicles/${vehicle.vehicle}`;
-  buttons.className = "buttons";
-  if (next) {
-    const call = next.kind === "pick" ? "pickup" : "dropoff", done = next.kind === "pick" ? "got in" : "got out";
-    buttons.append(button(`Rider ${next.ride} ${done}`, () =>
-      send("POST", `${path}/${call}`, { ride: next.ride }, () => `Rider ${next.ride} ${done}.`)));
-  }
-  buttons.append(button("The last entry was a mistake", () =>
-    send("POST", `${path}/mistake`, null, it => `Vehicle ${vehicle.vehicle} is back at node ${it.node}.`)));
-  return buttons;
+function keepContact(event) {
+  const number = byId("contact").dataset.ride, body = {};
+  if (event.submitter.value === "close") return;
+  for (const name of ["who", "phone", "note"]) body[name] = byId(`contact-${name}`).value.trim() || null;
+  if (event.submitter.value === "delete") send("DELETE", `rides/${number}/contact`, null, () => `What was known of rider ${number} is deleted.`);
+  else send("POST", `rides/${number}/contact`, body, () => `Kept for rider ${number}.`);
 }
 
 // --- commands -------------------------------------------------------------------------------------------------
@@ -345,16 +337,40 @@ async function send(method, path, body, done) {
   }
 }
 
-async function ask(event) {
+// What the desk answers to a GET; null where it can't.
+async function ask(path) {
+  try {
+    const response = await fetch(path, { headers: bearer() });
+    return response.ok ? await response.json() : null;
+  } catch {
+    return null;
+  }
+}
+
+// Saves a table; a link alone would bring no token.
+async function save(path, name) {
+  const response = await fetch(path, { headers: bearer() }).catch(() => null);
+  if (!response || !response.ok) return say("The table couldn't be had.", true);
+  const link = make("a"), address = URL.createObjectURL(await response.blob());
+  Object.assign(link, { href: address, download: name });
+  link.click();
+  setTimeout(() => URL.revokeObjectURL(address), 10000);
+  return null;
+}
+
+async function askRide(event) {
   event.preventDefault();
   const from = Number(byId("from").value), to = Number(byId("to").value);
   const unknown = [from, to].find(node => !map.at.has(node));
   if (unknown !== undefined) return say(`There is no node ${unknown} on the map.`, true);
   if (from === to) return say("The ride begins and ends at the same node.", true);
-  const body = { from, to, persons: Number(byId("persons").value) };
-  const answer = await send("POST", "rides", body, it => `Rider ${it.ride} waits for the next plan.`);
+  const body = { from, to, persons: Number(byId("persons").value) }, wanted = wantedSecond(byId("when").value.trim(), now());
+  if (wanted !== null) body.time = wanted;
+  if (byId("who").value.trim()) body.who = byId("who").value.trim();
+  const said = it => wanted !== null ? `Rider ${it.ride} is booked for ${clockTime(body.time)}, ${due(body.time, now())}.` : `Rider ${it.ride} waits for the next plan.`;
+  const answer = await send("POST", "rides", body, said);
   if (!answer) return;
-  byId("from").value = byId("to").value = "";
+  for (const name of ["from", "to", "when", "who"]) byId(name).value = "";
   showEnds();
   pick(false);
   showPanel("rides");
@@ -406,8 +422,12 @@ function key(event) {
     select(null, null);
   }
   if (event.target.matches("input, select, textarea") || event.ctrlKey || event.metaKey || event.altKey) return;
-  const name = { 1: "rides", 2: "vehicles", 3: "batches" }[event.key];
+  const name = { 1: "rides", 2: "vehicles", 3: "batches", 4: "day" }[event.key];
   if (name) showPanel(name);
+  if (event.key === "/") {
+    event.preventDefault();
+    byId("search").focus();
+  }
   if (event.key === "m") startPicking();
   if (event.key === "t") document.querySelector("#trouble .list").focus();
 }
@@ -415,7 +435,15 @@ function key(event) {
 const showPanel = makeTabs(document.querySelector("[role=tablist]"), name => {
   panel = name;
   if (map) drawList();
+  if (name === "day" && day) day.show();
 });
+
+// Shows what the search has found; a place becomes an end of the ride that is asked for.
+function openFound(kind, number) {
+  if (kind !== "place") return openThing(kind, number);
+  map.follow(map.at.get(number));
+  return picked(number);
+}
 
 // Fetches the network; where a token is needed for that, the page asks for one. Gives whether it is there.
 async function fetchNetwork() {
@@ -445,10 +473,18 @@ async function begin() {
     if (!network && !refused) beginning = setTimeout(begin, 2000);
     return;
   }
-  map = new DeskMap(network, { onNode: picked, onSelect: select });
-  Object.assign(map, { vehicles, rides, now });
+  setDay(network);
+  for (const it of document.querySelectorAll(".wait-words")) it.textContent = waitWords(Number(it.dataset.step));
+  byId("clock").title = clockTitle();
+  map = new DeskMap(network, { onNode: picked, onSelect: select, covered }, new KnownWays(ask, () => map.change()));
+  Object.assign(map, { vehicles, rides, now, lets });
+  box = new ChosenBox(byId("chosen"), { now, select, send, contact }, network.drivers);
+  day = new DayPanel(ask, save);
+  new Search(ask, openFound, it => stateWord(rides.get(it.ride) || it, now()));
+  for (const name of ["rides", "vehicles"]) byId(`filter-${name}`).addEventListener("change", filter);
+  byId("contact").querySelector("form").addEventListener("submit", keepContact);
   byId("token-field").hidden = !network.needs_token;
-  byId("ask").addEventListener("submit", ask);
+  byId("ask").addEventListener("submit", askRide);
   byId("pick").addEventListener("click", startPicking);
   byId("from").addEventListener("input", showEnds);
   byId("to").addEventListener("input", showEnds);
@@ -459,6 +495,7 @@ async function begin() {
   listen();
   setInterval(draw, 1000);
   setInterval(drawBar, 200);
+  setInterval(() => panel === "day" && day.show(), 10000);
 }
 
 byId("token").value = sessionStorage.getItem("token") || "";

@@ -1,19 +1,19 @@
 // The map: streets by Leaflet, and over them a canvas with ways, stops, riders and vehicles.
 
-import { BLUE, DARK, INK, RED, drawCircle, drawCross, drawLevel, drawStop, drawText } from "./shapes.js";
-import { Ways } from "./ways.js";
+import { BLUE, DARK, INK, RED, drawBar, drawCircle, drawCross, drawLevel, drawStop, drawText } from "./shapes.js";
 import { isAhead, isOpen, lateness, span, waitStep } from "./words.js";
 
-const STREET = "#b4c0c9";
+const STREET = "#b4c0c9", OUT = "#c9d1d8";
 const WAITS = ["#ffe9a8", "#f6b04c", "#d95f0e", "#7f2704"];
-const TWEEN = 500, REACH = 18, MOST_WAYS = 40, MANY = 60, MANYS_PAUSE = 100;
+const TWEEN = 500, REACH = 18, EDGE = 40, MOST_WAYS = 40, MANY = 60, MANYS_PAUSE = 100, CLUSTERED = 200, CELL = 48;
 
 export class DeskMap {
-  // `told` has onNode(node) for a node that was chosen, onSelect(kind, number) for what was clicked.
-  constructor(network, told) {
+  // `told` has onNode(node) for a node that was chosen, onSelect(kind, number) for what was clicked, and covered() for how
+  // much of the map's lower edge is covered. `ways` has way(from, to).
+  constructor(network, told, ways) {
     this.told = told;
     this.at = new Map(network.nodes.map(([node, a, b]) => [node, [a, b]]));
-    this.ways = new Ways(network.nodes, network.streets);
+    this.ways = ways;
     this.vehicles = new Map();
     this.rides = new Map();
     this.shown = new Map();
@@ -21,6 +21,7 @@ export class DeskMap {
     this.ends = {};
     this.picking = false;
     this.now = () => 0;
+    this.lets = () => true;  // whether the lists' filters let a ride or a vehicle onto the map
     this.make(network);
   }
 
@@ -87,11 +88,12 @@ export class DeskMap {
   nearestThing(point) {
     let best = REACH, found = null;
     for (const [number, spot] of this.shown) {
+      if (!this.isShown(this.vehicles.get(number))) continue;
       const distance = this.point(spot.place).distanceTo(point);
       if (distance < best) [best, found] = [distance, ["vehicle", number]];
     }
     for (const ride of this.rides.values()) {
-      if (!isAhead(ride)) continue;
+      if (!isAhead(ride) || !this.lets("ride", ride)) continue;
       const distance = this.point(this.at.get(ride.from)).distanceTo(point);
       if (distance < best - 2) [best, found] = [distance, ["ride", ride.ride]];
     }
@@ -107,18 +109,18 @@ export class DeskMap {
     const goal = (vehicle.place || this.at.get(vehicle.node)).slice(0, 2), node = nextNode(vehicle);
     const spot = this.shown.get(vehicle.vehicle), time = performance.now();
     if (!spot) {
-      this.shown.set(vehicle.vehicle, { place: goal, path: [], goal, node, time, until: time });
+      this.shown.set(vehicle.vehicle, { place: goal, path: [], goal, node, time, until: time, way: [] });
     } else if (spot.goal[0] !== goal[0] || spot.goal[1] !== goal[1]) {
-      const path = [...spot.path, ...this.passed(spot.node, node), goal];
+      const path = [...spot.path, ...this.passed(spot, node), goal];
       Object.assign(spot, { path, goal, node, time, until: time + TWEEN });
     }
     this.animate();
   }
 
-  // The places of the nodes from one that was to come next up to the one that is now. Of many vehicles none is looked up.
-  passed(before, node) {
-    if (before === node || this.vehicles.size > MOST_WAYS) return [];
-    return this.ways.way(before, node).slice(0, -1).map(it => this.at.get(it));
+  // The places of the nodes from the one that was to come next up to the one that does now, on the way that was drawn last.
+  passed({ way, node: before }, node) {
+    const from = way.indexOf(before), to = from < 0 ? -1 : way.indexOf(node, from);
+    return to < 0 ? [] : way.slice(from, to).map(it => this.at.get(it));
   }
 
   choose(kind, number) {
@@ -136,9 +138,10 @@ export class DeskMap {
     this.map.getContainer().classList.toggle("picking", on);
   }
 
-  // Brings a place into view, if it isn't.
+  // Brings a place into view, by as little as can be, if it isn't.
   follow(place) {
-    if (!this.map.getBounds().pad(-0.1).contains(place)) this.map.panTo(place, { animate: false });
+    const corners = { paddingTopLeft: [EDGE, EDGE], paddingBottomRight: [EDGE, EDGE + this.told.covered()] };
+    this.map.panInside(place, { ...corners, animate: false });
   }
 
   change() {
@@ -165,7 +168,7 @@ export class DeskMap {
     pen.clearRect(0, 0, this.canvas.width, this.canvas.height);
     this.drawWays(pen);
     this.drawRiders(pen);
-    for (const vehicle of this.vehicles.values()) if (vehicle !== chosen) this.drawVehicle(pen, vehicle);
+    for (const vehicle of this.vehicles.values()) if (vehicle !== chosen && this.isShown(vehicle)) this.drawVehicle(pen, vehicle);
     this.drawChosenRide(pen);
     if (chosen) this.drawStops(pen, chosen);
     if (chosen) this.drawVehicle(pen, chosen);
@@ -186,6 +189,11 @@ export class DeskMap {
     return moving;
   }
 
+  // Whether a vehicle is drawn: the chosen one always is.
+  isShown(vehicle) {
+    return vehicle !== undefined && (this.lets("vehicle", vehicle) || vehicle === this.chosenVehicle());
+  }
+
   chosenVehicle() {
     if (!this.chosen) return null;
     if (this.chosen.kind === "vehicle") return this.vehicles.get(this.chosen.number);
@@ -196,21 +204,21 @@ export class DeskMap {
   drawWays(pen) {
     const chosen = this.chosenVehicle();
     if (this.vehicles.size <= MOST_WAYS) {
-      for (const vehicle of this.vehicles.values()) if (vehicle !== chosen) this.drawWay(pen, vehicle, false);
+      for (const vehicle of this.vehicles.values()) if (vehicle !== chosen && this.isShown(vehicle)) this.drawWay(pen, vehicle, false);
     }
     if (chosen) this.drawWay(pen, chosen, true);
   }
 
-  // A vehicle's way over its next stops in order; dashed where it is only sent toward a rider who was left out.
+  // A vehicle's way over its next stops in order, once it is known; dashed where it is only sent toward a rider who was left
+  // out.
   drawWay(pen, vehicle, strong) {
     const goals = vehicle.stops.length ? vehicle.stops.map(stop => stop.node) : vehicle.move === null ? [] : [vehicle.move];
     if (!goals.length) return;
-    const { place, path } = this.shown.get(vehicle.vehicle), places = [place, ...path];
-    let here = nextNode(vehicle);
-    for (const goal of goals) {
-      for (const node of this.ways.way(here, goal)) places.push(this.at.get(node));
-      here = goal;
-    }
+    const spot = this.shown.get(vehicle.vehicle), starts = [nextNode(vehicle), ...goals];
+    const parts = goals.map((goal, i) => this.ways.way(starts[i], goal));
+    if (parts.includes(null)) return;
+    spot.way = parts.flat();
+    const places = [spot.place, ...spot.path, ...spot.way.map(it => this.at.get(it))];
     pen.beginPath();
     places.forEach((place, i) => {
       const { x, y } = this.point(place);
@@ -236,13 +244,15 @@ export class DeskMap {
 
   // One mark for all who wait at a node, in the colour of the longest wait, with their number.
   drawRiders(pen) {
-    const groups = new Map();
-    for (const ride of this.rides.values()) {
-      if (!isAhead(ride)) continue;
-      if (!groups.has(ride.from)) groups.set(ride.from, []);
-      groups.get(ride.from).push(ride);
+    const ahead = [...this.rides.values()].filter(it => isAhead(it) && this.lets("ride", it));
+    const clustered = ahead.length > CLUSTERED, groups = new Map();
+    for (const ride of ahead) {
+      const point = this.point(this.at.get(ride.from));
+      const key = clustered ? `${Math.floor(point.x / CELL)} ${Math.floor(point.y / CELL)}` : ride.from;
+      if (!groups.has(key)) groups.set(key, { point, rides: [] });
+      groups.get(key).rides.push(ride);
     }
-    for (const [node, group] of groups) this.drawGroup(pen, this.point(this.at.get(node)), group, groups.size > MANY);
+    for (const { point, rides } of groups.values()) this.drawGroup(pen, point, rides, groups.size > MANY && !clustered);
   }
 
   drawGroup(pen, { x, y }, group, many) {
@@ -302,7 +312,8 @@ export class DeskMap {
     if (chosen) drawCircle(pen, x, y, size + 5, "rgba(230, 159, 0, 0.9)", null);
     const late = lateness(vehicle, this.now());
     if (late > 0) drawCircle(pen, x, y, size + 3, RED, null);
-    drawCircle(pen, x, y, size, "#fff", DARK);
+    drawCircle(pen, x, y, size, vehicle.out ? OUT : "#fff", DARK);
+    if (vehicle.out) drawBar(pen, x, y, size - 4);
     const part = Math.min(1, vehicle.persons / vehicle.max_capacity);
     if (part > 0) drawLevel(pen, x, y, size - 1, part);
     if (!many || chosen) drawText(pen, String(vehicle.vehicle), x, y - size - 8, 12, INK, true);

@@ -29,6 +29,16 @@ export function drawCross(pen, x, y, size, color) {
   pen.stroke();
 }
 
+// A bar across.
+export function drawBar(pen, x, y, size) {
+  pen.beginPath();
+  pen.moveTo(x - size, y);
+  pen.lineTo(x + size, y);
+  pen.strokeStyle = DARK;
+  pen.lineWidth = 3;
+  pen.stroke();
+}
+
 export function drawCircle(pen, x, y, size, fill, line) {
   pen.beginPath();
   pen.arc(x, y, size, 0, 2 * Math.PI);
