@@ -44,7 +44,8 @@ TOP = Path(__file__).resolve().parent.parent
 CRATES = TOP / "crates"
 BOOK = TOP / "docs" / "proof" / "DEFINITIONS.md"
 HEADLINE = ("ridepool", "ridepool")
-COMMANDS = {"run": "AnswersRun", "drive": "AnswersDrive", "load": "AnswersLoad", "audit": "AnswersAudit", "live": "AnswersLive"}
+COMMANDS = {"run": "AnswersRun", "drive": "AnswersDrive", "load": "AnswersLoad", "audit": "AnswersAudit", "live": "AnswersLive",
+            "resume": "AnswersResume"}
 BEGIN, END = "<!-- {}: begin -->", "<!-- {}: end -->"
 
 

@@ -37,6 +37,8 @@ CHAPTERS = (
     ("The call", "What the program answers, by its command. The headline's clause is `Answers`.", "ridepool"),
     ("The live session", "What is read, answered and written while requests come in, and what a call of `live` answers: `AnswersLive`.",
      "input_rows/specs/live/Lines", "input_rows/src/live/judge", "input_rows/specs/live/Rows", "input_rows/src/live/start", "input_rows/specs/live/Start", "input_rows/src/live/lines", "live_dispatch", "ridepool/specs/Live"),
+    ("The restart", "What a report keeps of a day that broke off, how the day goes on, and what a call of `resume` answers: `AnswersResume`.",
+     "rider_limits/src/resume_words", "report_past", "live_dispatch/specs/Closing", "ridepool/specs/Resume"),
 )
 
 

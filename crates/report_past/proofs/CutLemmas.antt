@@ -35,7 +35,7 @@ use Rattle.std.specs.List.{All}
 unfoldable use Rattle.dispatch_report.specs.Lines.{lines_text}
 use Rattle.report_audit.specs.lines.Cut.{is_one_line}
 unfoldable use Rattle.report_past.specs.Whole.{after_lines}
-use Rattle.report_past.specs.Whole.{IsWhole, after_line}
+use Rattle.report_past.specs.Whole.{IsWholeText, after_line}
 unfoldable use Rattle.report_past.specs.work.Walk.{are_inside}
 use Rattle.report_past.specs.work.Walk.{Walked}
 
@@ -201,7 +201,7 @@ walk_whole text rest line after inside now kept w cut one is off =
 
 -- what was walked through to its end is whole as far as it can be
 pub walked_out : (text rest : List ℕ) (inside : Bool) (kept m : ℕ) → Walked text rest inside kept → is_one_line rest ≡ true → m ≤ length text →
-    IsWhole (take m text) → m ≤ kept
+    IsWholeText (take m text) → m ≤ kept
 walked_out text rest inside kept m w one most is =
     let whole : lines_text is.lines ++ drop m text ≡ text = ap (λ t. t ++ drop m text) (sym is.printed) ∙ take-append-drop m text in
     let less = whole_le w.whole w.others is.lines rest (drop m text) false w.ones w.other_ones is.ones one w.closed w.still (whole ∙ w.printed) is.closed in

@@ -66,7 +66,7 @@ use Rattle.report_past.proofs.ItemLemmas.{reads_close, reads_row}
 use Rattle.report_past.proofs.StepLemmas.{no_close}
 use Rattle.report_past.specs.Past.{IsPast, dropped_text}
 use Rattle.report_past.specs.Told.{AreScriptRows, close_of}
-use Rattle.report_past.specs.Whole.{IsWhole}
+use Rattle.report_past.specs.Whole.{IsWholeText}
 use Rattle.report_past.specs.work.Reading.{IsAbove, IsDropped, IsReading, Stand, StandsIn, stand, start_text}
 use Rattle.report_past.specs.work.Taking.{EntersClose, Reached, TakesClose, TakesRow, TellsBlock, fresh}
 use Rattle.request_book.specs.Book.{BookView, IsApplied, IsBook, next_position, opening}
@@ -371,8 +371,8 @@ module _ (settings : Settings) (roads : Roads) (vehicles : List Vehicle) (judged
       let count : length whole - length rest ≡ length read = omega (arith, ap length is, length-append read rest) in
       (λ i. take (count i) (is i)) ∙ take-front read rest
 
-  pub past_is : (text whole kept rest : List ℕ) (size : ℕ) (s : Stand) (b : BookView) → whole ≡ take size text → size ≤ length text → IsWhole (take size text)
-      → ((m : ℕ) → m ≤ length text → IsWhole (take m text) → m ≤ size) → Reached settings roads vehicles judged whole s rest → IsDropped rest
+  pub past_is : (text whole kept rest : List ℕ) (size : ℕ) (s : Stand) (b : BookView) → whole ≡ take size text → size ≤ length text → IsWholeText (take size text)
+      → ((m : ℕ) → m ≤ length text → IsWholeText (take m text) → m ≤ size) → Reached settings roads vehicles judged whole s rest → IsDropped rest
       → kept ≡ take (length whole - length rest) whole → b ≡ fresh s.book → IsBook b
       → IsPast settings roads vehicles judged text kept s.last b s.open_batch s.notices
   past_is text whole kept rest size s b whole_is within is_whole longest reached dropped kept_at fresh_is book =
@@ -385,7 +385,7 @@ module _ (settings : Settings) (roads : Roads) (vehicles : List Vehicle) (judged
           entries = dropped.1;
           rest = drop size text;
           parts = sym (take-append-drop size text) ∙ ap (λ t. t ++ drop size text) parts;
-          whole = subst IsWhole parts is_whole;
+          whole = subst IsWholeText parts is_whole;
           longest = λ m low is. let small = longest m low is in omega (arith, small, ap length parts, length-take-le size text within);
         };
         rows = told.rows;

@@ -20,7 +20,7 @@ use Rattle.request_book.specs.declared.values.vehicle.Vehicle.{Vehicle}
 use Rattle.rider_limits.specs.declared.settings.Settings.{Settings}
 use Rattle.road_network.specs.Roads.{Roads}
 use Rattle.report_past.specs.Told.{AreScriptRows, IsToldRun, PastIsGood, closed_with}
-use Rattle.report_past.specs.Whole.{IsWhole}
+use Rattle.report_past.specs.Whole.{IsWholeText}
 
 -- the line of a round, if it stands there, and behind it the last line of a report, if it does
 abbrev pub dropped_text : Option ℕ → Option ℕ → List ℕ
@@ -28,13 +28,13 @@ dropped_text round entries = option_map_or round_line round [] ++ option_map_or 
 
 -- of the longest beginning of the text that is whole, all is kept but the last line of a report and the line of an empty
 -- round at its end
-pub record IsKept (text kept : List ℕ) : Type 0 where
+pub record IsKeptPart (text kept : List ℕ) : Type 0 where
   pub round : Option ℕ
   pub entries : Option ℕ
   pub rest : List ℕ
   pub parts : text ≡ (kept ++ dropped_text round entries) ++ rest
-  pub whole : IsWhole (kept ++ dropped_text round entries)
-  pub longest : (m : ℕ) → m ≤ length text → IsWhole (take m text) → m ≤ length (kept ++ dropped_text round entries)
+  pub whole : IsWholeText (kept ++ dropped_text round entries)
+  pub longest : (m : ℕ) → m ≤ length text → IsWholeText (take m text) → m ≤ length (kept ++ dropped_text round entries)
 
 -- the round of the last row
 abbrev pub last_round : List ScriptRow → Option ℕ
@@ -66,7 +66,7 @@ pub record StandsBehind (settings : Settings) (roads : Roads) (vehicles : List V
 -- the batch that is open is closed, closes stand where they must. Nothing is said of what closes tell, unless they were
 -- judged
 pub record IsPast (settings : Settings) (roads : Roads) (vehicles : List Vehicle) (judged : Bool) (text kept : List ℕ) (last : Option ℕ) (b : BookView) (open_batch : Option Batch) (notices : List Notice) : Type 0 where
-  pub cut : IsKept text kept
+  pub cut : IsKeptPart text kept
   pub rows : List ScriptRow
   pub lawful : AreScriptRows 0 rows
   pub last_is : last ≡ last_round rows

@@ -22,7 +22,7 @@ after_lines inside [] = inside
 after_lines inside (line ∷ lines) = after_lines (after_line inside line) lines
 
 -- the text is whole lines, behind which no block is open
-pub record IsWhole (text : List ℕ) : Type 0 where
+pub record IsWholeText (text : List ℕ) : Type 0 where
   pub lines : List (List ℕ)
   pub ones : All (λ line. is_one_line line ≡ true) lines
   pub printed : text ≡ lines_text lines

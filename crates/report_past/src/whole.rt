@@ -1,13 +1,13 @@
 //! The whole lines with which a torn report begins.
 ghost use Rattle.std.specs.Prelude.{◌≡◌, ◌≤◌, ℕ, length, take};
-ghost use Rattle.report_past.specs.Whole.{IsWhole, after_line, is_end, opens};
+ghost use Rattle.report_past.specs.Whole.{IsWholeText, after_line, is_end, opens};
 
 use report_audit::line_first;
 
 /// How many bytes the longest beginning of a text has that is whole lines, none of them of a block that isn't ended.
 pub fn whole_size(text: &[u8]) -> usize
-    ensures whole { IsWhole (take result text.now) }
-    ensures longest { (m : ℕ) → m ≤ length text.now → IsWhole (take m text.now) → m ≤ result }
+    ensures whole { IsWholeText (take result text.now) }
+    ensures longest { (m : ℕ) → m ≤ length text.now → IsWholeText (take m text.now) → m ≤ result }
     ensures within { result ≤ length text.now }
 {
     let mut rest = text;
