@@ -1,5 +1,6 @@
-use Rattle.std.proofs.Common.{◌≡◌, rules, inl, refl, ap, arith}
-use Rattle.ridepool.proofs.Common.{SinkView, Streamed, BookView, EndsLive}
+use Rattle.std.proofs.Common.{◌≡◌, List, rules, inl, refl, ap, arith}
+use Rattle.ridepool.proofs.Common.{SinkView, Streamed, BookView, EndsLive, NotifierView}
+use Rattle.request_book.specs.notices.Seen.{notifiers_seen}
 use Rattle.ridepool.proofs.LiveLemmas.{ready-live, rows-ended}
 use Rattle.ridepool.proofs.live_call.live_in.Goals as goal
 
@@ -46,5 +47,6 @@ returns-in-Ok-start_live g c =
 pub returns-in-Err : goal.returns-in-Err
 returns-in-Err g c =
     let kept = c.ended-in-Err.ensures in
-    let stopped = rw (c.over-lines.ensures.to_come, c.over-lines.ensures.faults) at (c.in-Err.ensures.stopped _) in
+    let told : List NotifierView = notifiers_seen g.N.Notifier.told g.N.Notifier.faults g.N.Notifier.steady c.args.session.outputs.notifiers.items in
+    let stopped = rw (c.over-lines.ensures.to_come, c.over-lines.ensures.faults) at (c.in-Err.ensures.stopped told) in
     rw (kept.0, kept.1, kept.2, kept.3, c.into_source-in-Err.ensures) stopped
