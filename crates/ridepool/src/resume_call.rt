@@ -1,5 +1,5 @@
 //! A day that goes on behind what a report keeps of it: one call beside the others.
-ghost use Rattle.std.specs.Prelude.{◌≡◌, ◌≤◌, ℕ, List, All, IfErr, IfOk, MatchResult, map};
+ghost use Rattle.std.specs.Prelude.{◌≡◌, ◌≢◌, ◌≤◌, ℕ, List, All, IfErr, IfOk, MatchResult, map};
 ghost use Rattle.std.specs.String.{string_bytes};
 ghost use Rattle.input_rows.specs.live.Start.{HasStarted};
 ghost use Rattle.live_dispatch.specs.Desk.{outputs_seen};
@@ -11,8 +11,9 @@ ghost use Rattle.ridepool.specs.Inputs.{IsWithin};
 ghost use Rattle.ridepool.specs.Live.{AreLimited, IsUnbegun, LiveSeen};
 ghost use Rattle.ridepool.specs.Resume.{AnswersResume, CatchesUp, Copies, Day as OneDay, EndsResume, ExplainsResume, IsPastOf, ResumeCall, fault_of_head};
 ghost use Rattle.ridepool.specs.Status.{HidesNoMemory};
+ghost use Rattle.ridepool.specs.declared.status.RunStatus.TheVariants.{Report};
 ghost use Rattle.ridepool.specs.work.Live.{live_seen};
-ghost use Rattle.ridepool.specs.work.Resume.{EndsDay, GotDay, IsBehindClose, IsReportLimited, IsRestartable, RunsBehindIt, StopsCatching, TellsDay, TellsNoDay, day_of, kept_of, with_times};
+ghost use Rattle.ridepool.specs.work.Resume.{EndsDay, GoesOn, GotDay, IsBehindClose, IsReportLimited, IsRestartable, RunsBehindIt, StopsCatching, TellsDay, TellsNoDay, day_of, kept_of, with_times};
 
 use crate::live_call::{LiveEnd, Session, end_status, ended, start_status};
 use crate::reading::{fleet_from, network_from, read_input};
@@ -158,6 +159,7 @@ fn day_inputs<R: Source, F: Source, A: Source>(
         MatchResult result (λ _. IsWithin file.Network network_seen × IsWithin file.Fleet fleet_seen × IsWithin file.Report report_seen)
         (λ status. AreLimited network_seen fleet_seen status × IsReportLimited report_seen status) }
     ensures no_memory { IfErr result HidesNoMemory }
+    ensures unjudged { IfErr result (λ status. (fault : AuditFault) → status ≢ Report fault) }
 {
     let said = match read_resume(words) {
         Ok(said) => said,
@@ -302,7 +304,7 @@ fn go_on<
     session: Session<S, K, N, L>,
     gate: &G,
 ) -> LiveEnd<S, K, N>
-    requires named { All (λ vehicle. IsNode inputs.now.network.nodes vehicle.node) inputs.now.fleet }
+    requires { GoesOn day.settings inputs.now.network (kept_of day.past) }
     ensures { let seen = live_seen (S.left session.script) (S.faults session.script) (S.faults result.script) (sink_seen K.written K.faults session.outputs.sink result.out)
         (notifiers_seen N.told N.faults N.steady session.outputs.notifiers.items) (notifiers_seen N.told N.faults N.steady result.notifiers.items) in
         (text : List ℕ) → let d = day_of day.settings inputs.now.network inputs.now.fleet text inputs.now.said in
@@ -364,7 +366,7 @@ fn restart<
     session: Session<S, K, N, L>,
     solver: &BatchSolver<'_, W, D, G>,
 ) -> LiveEnd<S, K, N>
-    requires named { All (λ vehicle. IsNode solver.now.network.now.nodes vehicle.node) place.fleet.now }
+    requires { GoesOn solver.now.settings.now solver.now.network.now (kept_of past) }
     ensures { let seen = live_seen (S.left session.script) (S.faults session.script) (S.faults result.script) (sink_seen K.written K.faults session.outputs.sink result.out)
         (notifiers_seen N.told N.faults N.steady session.outputs.notifiers.items) (notifiers_seen N.told N.faults N.steady result.notifiers.items) in
         (d : OneDay) → d.inputs ≡ record { settings = solver.now.settings.now; roads = solver.now.network.now; vehicles = place.fleet.now } → IsPastOf d (kept_of past) → EndsResume d seen result.status }

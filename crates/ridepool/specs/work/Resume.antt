@@ -1,5 +1,5 @@
 -- The steps of a call of `resume`.
-use Rattle.std.specs.Prelude.{◌≡◌, ◌≢◌, ℕ, ◌≤◌, ◌<◌, ◌^◌, List, [], Option, Some, Result, MatchResult, All, Contains, ◌⊎◌}
+use Rattle.std.specs.Prelude.{◌≡◌, ◌≢◌, ℕ, ◌≤◌, ◌<◌, ◌^◌, true, List, [], Option, Some, Result, IfSome, MatchResult, All, Contains, ◌⊎◌}
 use Rattle.std.specs.Result.{IsErrOf}
 use Rattle.dispatch_engine.specs.lanes.Run.{IsReady}
 use Rattle.input_rows.specs.declared.script.script_row.ScriptRow.{ScriptRow}
@@ -13,6 +13,7 @@ use Rattle.pool_io.specs.Faults.{Rose}
 use Rattle.pool_io.specs.Views.{Change, IsUntouched, SourceView}
 use Rattle.report_audit.specs.declared.report.fault.AuditFault.{AuditFault}
 use Rattle.report_audit.specs.declared.report.fault.AuditFault.TheVariants as audit
+use Rattle.report_past.specs.Past.{MayBeLeft}
 use Rattle.report_past.specs.declared.past.Past.{Past}
 use Rattle.request_book.specs.Book.{BookView}
 use Rattle.request_book.specs.Points.{named_nodes}
@@ -53,10 +54,15 @@ pub record TellsDay (said : ResumeWords) (roads : Roads) (vehicles : List Vehicl
   pub day : HasDay said (day_of settings roads vehicles text said) bytes
   pub past : IsPastOf (day_of settings roads vehicles text said) kept
 
+-- whatever day the bytes tell, no run of rows may leave what stands behind its head
+abbrev pub IsUnleft : ResumeWords → Roads → List Vehicle → List ℕ → Type 0
+IsUnleft said roads vehicles bytes =
+    (d : Day) → HasDay said d bytes → d.inputs.roads ≡ roads → d.inputs.vehicles ≡ vehicles → MayBeLeft d.inputs.settings roads vehicles d.text → ⊥
+
 -- why they don't
 abbrev pub TellsNoDay : ResumeWords → Roads → List Vehicle → List ℕ → RunStatus → Type 0
 TellsNoDay said roads vehicles bytes (Report fault) =
-    (fault ≢ audit.OutOfMemory) × IsNoPast said roads vehicles bytes fault
+    (fault ≢ audit.OutOfMemory) × IsNoPast said roads vehicles bytes fault × IsUnleft said roads vehicles bytes
 TellsNoDay said roads vehicles bytes OutOfMemory = Unit {0}
 TellsNoDay said roads vehicles bytes _ = ⊥
 
@@ -79,6 +85,12 @@ pub record IsRestartable (settings : Settings) (roads : Roads) (b : BookView) (w
   pub low : b.first < 2 ^ 64
   pub sealed : b.state.sealed ≡ waits
   pub named : (batch : Batch) → waits ≡ Some batch → All (λ node. Contains roads.nodes node) (named_nodes batch)
+
+-- a day goes on behind what is kept of it: rows of later rounds may come, and trees are printed as before
+pub record GoesOn (settings : Settings) (roads : Roads) (k : Kept) : Type 0 where
+  pub ready : IsRestartable settings roads k.book k.open_batch
+  pub round : IfSome k.last (λ last. last ≤ 1000000000)
+  pub proof : settings.proof ≡ true
 
 -- the book is ready for a row
 pub record IsBehindClose (settings : Settings) (roads : Roads) (b : BookView) : Type 0 where
