@@ -37,7 +37,7 @@ use Rattle.ridepool.proofs.Common.{
 use Rattle.input_rows.specs.declared.live.start.HeaderFault.TheVariants as no_header
 use Rattle.pool_base.specs.declared.which.Which.TheVariants as file
 use Rattle.report_audit.specs.declared.lines.head_fault.HeadFault.{HeadFault}
-use Rattle.report_audit.specs.declared.lines.head_fault.HeadFault.TheVariants as head
+use Rattle.report_audit.specs.declared.lines.head_fault.HeadFault.TheVariants as of_head
 use Rattle.report_audit.specs.declared.report.fault.AuditFault.{AuditFault}
 use Rattle.report_audit.specs.declared.report.fault.AuditFault.TheVariants as audit
 use Rattle.report_audit.specs.lines.Head.{BeginsWithHead}
@@ -117,9 +117,9 @@ fleet-unjudged s nodes _ (StopsAt.refused why reads hides) fault is = cc
 
 -- a fault of a head is none of memory
 pub head-hides : (fault : HeadFault) → fault_of_head fault ≢ audit.OutOfMemory
-head-hides (head.Cut line) is = cc
-head-hides (head.Form line) is = cc
-head-hides (head.Head line) is = cc
+head-hides (of_head.Cut line) is = cc
+head-hides (of_head.Form line) is = cc
+head-hides (of_head.Head line) is = cc
 
 -- the end of a call behind its report hides no want of memory, and doesn't judge it
 pub ends-hide : (d : Day) (seen : LiveSeen) (status : RunStatus) → EndsResume d seen status → HidesNoMemory status

@@ -88,7 +88,7 @@ use Rattle.live_dispatch.specs.declared.fault.LiveFault.{LiveFault}
 use Rattle.live_dispatch.specs.declared.fault.LiveFault.TheVariants as live
 use Rattle.pool_base.specs.declared.which.Which.TheVariants as file
 use Rattle.report_audit.specs.declared.lines.head_fault.HeadFault.{HeadFault}
-use Rattle.report_audit.specs.declared.lines.head_fault.HeadFault.TheVariants as head
+use Rattle.report_audit.specs.declared.lines.head_fault.HeadFault.TheVariants as of_head
 use Rattle.report_audit.specs.declared.report.fault.AuditFault.{AuditFault}
 use Rattle.report_audit.specs.declared.report.fault.AuditFault.TheVariants as audit
 use Rattle.report_past.proofs.StepLemmas.{closed_state}

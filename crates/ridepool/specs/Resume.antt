@@ -20,7 +20,7 @@ use Rattle.pool_io.specs.Views.{Change, IsUntouched, SinkView, SourceView}
 use Rattle.report_audit.specs.lines.Head.{BeginsWithHead}
 use Rattle.report_audit.specs.lines.HeadFault.{HeadFails}
 use Rattle.report_audit.specs.declared.lines.head_fault.HeadFault.{HeadFault}
-use Rattle.report_audit.specs.declared.lines.head_fault.HeadFault.TheVariants as head
+use Rattle.report_audit.specs.declared.lines.head_fault.HeadFault.TheVariants as of_head
 use Rattle.report_audit.specs.declared.report.fault.AuditFault.{AuditFault}
 use Rattle.report_audit.specs.declared.report.fault.AuditFault.TheVariants as audit
 use Rattle.report_past.specs.Past.{IsPast, MayBeLeft}
@@ -170,9 +170,9 @@ pub data EndsResume (d : Day) (seen : LiveSeen) : RunStatus → Type 0 where
 
 -- the fault of a head, as that of a report
 abbrev pub fault_of_head : HeadFault → AuditFault
-fault_of_head (head.Cut line) = audit.Cut line
-fault_of_head (head.Form line) = audit.Form line
-fault_of_head (head.Head line) = audit.Head line
+fault_of_head (of_head.Cut line) = audit.Cut line
+fault_of_head (of_head.Form line) = audit.Form line
+fault_of_head (of_head.Head line) = audit.Head line
 
 -- why a report is no past of a day: its head fails, or no run of rows leaves what follows
 pub data IsNoPast (said : ResumeWords) (roads : Roads) (vehicles : List Vehicle) (bytes : List ℕ) : AuditFault → Type 0 where

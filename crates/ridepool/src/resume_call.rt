@@ -304,11 +304,11 @@ fn go_on<
     session: Session<S, K, N, L>,
     gate: &G,
 ) -> LiveEnd<S, K, N>
-    requires { GoesOn day.settings inputs.now.network (kept_of day.past) }
+    requires ready { GoesOn day.settings inputs.now.network (kept_of day.past) }
     ensures { let seen = live_seen (S.left session.script) (S.faults session.script) (S.faults result.script) (sink_seen K.written K.faults session.outputs.sink result.out)
         (notifiers_seen N.told N.faults N.steady session.outputs.notifiers.items) (notifiers_seen N.told N.faults N.steady result.notifiers.items) in
-        (text : List ℕ) → let d = day_of day.settings inputs.now.network inputs.now.fleet text inputs.now.said in
-        IsPastOf d (kept_of day.past) → EndsResume d seen result.status }
+        (text : List ℕ) → let d = day_of day.entry.settings inputs.now.network inputs.now.fleet text inputs.now.said in
+        IsPastOf d (kept_of day.entry.past) → EndsResume d seen result.status }
 {
     let Day {
         settings,
@@ -366,10 +366,10 @@ fn restart<
     session: Session<S, K, N, L>,
     solver: &BatchSolver<'_, W, D, G>,
 ) -> LiveEnd<S, K, N>
-    requires { GoesOn solver.now.settings.now solver.now.network.now (kept_of past) }
+    requires ready { GoesOn solver.now.settings.now solver.now.network.now (kept_of past) }
     ensures { let seen = live_seen (S.left session.script) (S.faults session.script) (S.faults result.script) (sink_seen K.written K.faults session.outputs.sink result.out)
         (notifiers_seen N.told N.faults N.steady session.outputs.notifiers.items) (notifiers_seen N.told N.faults N.steady result.notifiers.items) in
-        (d : OneDay) → d.inputs ≡ record { settings = solver.now.settings.now; roads = solver.now.network.now; vehicles = place.fleet.now } → IsPastOf d (kept_of past) → EndsResume d seen result.status }
+        (d : OneDay) → d.inputs ≡ record { settings = solver.now.settings.now; roads = solver.now.network.now; vehicles = place.entry.fleet.now } → IsPastOf d (kept_of past.entry) → EndsResume d seen result.status }
 {
     let Session {
         script,
@@ -474,7 +474,7 @@ fn run_behind<
 ) -> Dispatched<K, N, L>
     requires ready { IsRestartable solver.now.settings.now solver.now.network.now past.book past.open }
     requires first { L.last rows ≡ 0 }
-    ensures { RunsBehindIt solver.now.settings.now solver.now.network.now past.book past.open
+    ensures { RunsBehindIt solver.now.settings.now solver.now.network.now past.entry.book past.entry.open
         (outputs_seen K.written K.faults N.told N.faults N.steady outputs.sink outputs.notifiers.items)
         (outputs_seen K.written K.faults N.told N.faults N.steady result.outputs.sink result.outputs.notifiers.items)
         (L.to_come rows) (L.faults rows) (L.faults result.rows) result.ended }
@@ -506,7 +506,7 @@ fn catch_up<K: Sink, N: Notifier, W: Ways, D: Drafter, G: Gate>(
     outputs: Outputs<K, N>,
     solver: &BatchSolver<'_, W, D, G>,
 ) -> Caught<K, N>
-    requires { IsRestartable solver.now.settings.now solver.now.network.now book waits }
+    requires ready { IsRestartable solver.now.settings.now solver.now.network.now book waits }
     ensures caught { let before = outputs_seen K.written K.faults N.told N.faults N.steady outputs.sink outputs.notifiers.items in
         let after = outputs_seen K.written K.faults N.told N.faults N.steady result.outputs.sink result.outputs.notifiers.items in
         MatchResult result.book
