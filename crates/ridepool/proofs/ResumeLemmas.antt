@@ -180,21 +180,23 @@ pub close-stops : (settings : Settings) (roads : Roads) (old : BookView) (waits 
     → RunsBehindIt settings roads old waits before after rows reads reads (Err why)
 close-stops settings roads old waits before after rows reads why stops falls = record {
   run = inl stops;
-  write_fault = (λ is. rose why stops.stopped is);
-  read_fault = (λ is. absurd (unread why stops.stopped is));
+  write_fault = (λ is. rose why stops.stopped (same (Err why) why live.WriteFault refl is));
+  read_fault = (λ is. absurd (unread why stops.stopped (same (Err why) why live.ReadFault refl is)));
   never_falls = falls;
 }
   where
-    rose : (fault : LiveFault) → StopsClose settings roads stops.batch old before after fault → Err {A = Unit {0}} fault ≡ Err live.WriteFault →
-        Rose before.sink.faults after.sink.faults
+    same : (r : Result (Unit {0}) LiveFault) (a b : LiveFault) → r ≡ Err a → IsErrOf r b → a ≡ b
+    same r a b is has = cc (is, has)
+
+    rose : (fault : LiveFault) → StopsClose settings roads stops.batch old before after fault → fault ≡ live.WriteFault → Rose before.sink.faults after.sink.faults
     rose _ (StopsClose.failed breaks rises) is = rises
-    rose _ (StopsClose.unwritten same) is = absurd cc
+    rose _ (StopsClose.unwritten kept) is = absurd cc
     rose _ (StopsClose.broken breaks) is = absurd cc
     rose _ (StopsClose.written outcome closed) is = absurd cc
 
-    unread : (fault : LiveFault) → StopsClose settings roads stops.batch old before after fault → Err {A = Unit {0}} fault ≡ Err live.ReadFault → ⊥
+    unread : (fault : LiveFault) → StopsClose settings roads stops.batch old before after fault → fault ≡ live.ReadFault → ⊥
     unread _ (StopsClose.failed breaks rises) is = cc
-    unread _ (StopsClose.unwritten same) is = cc
+    unread _ (StopsClose.unwritten kept) is = cc
     unread _ (StopsClose.broken breaks) is = cc
     unread _ (StopsClose.written outcome closed) is = cc
 
@@ -266,6 +268,7 @@ module _ (d : Day) (seen : LiveSeen) (kept : Kept) (past : IsPastOf d kept) (pro
   }
 
   done : (c : Caught (λ book behind. RunsBehind d seen book behind Rows)) → EndsResume d seen RunStatus.Done
+  unfolding again
   done c = EndsResume.done (record {
     stands = again (RunsBehind d seen) c;
     whole = whole d seen kept past proof copied copies c.book c.behind c.caught Rows c.holds;

@@ -128,7 +128,7 @@ module _ (i : LiveInputs) (rows : List ScriptRow) where
         → Appends behind.sink.written seen.out.after.written (rows_text i.settings i.roads book.first new journals) → IsWholeReport i seen rows new
     whole-by None old book copied behind CatchesUp.none stands told front run rest =
         whole-of new made journals book (told no_outcome) good stands.base stands.first seen behind.sink.written front run rest
-    whole-by (Some batch) old book copied behind (CatchesUp.closed batch book behind c) stands told front run rest =
+    whole-by (Some batch) old book copied behind (CatchesUp.closed _ _ _ c) stands told front run rest =
         let runs = told c.outcome in
         let all = with_last (close_of batch c.outcome) made in
         let closing = text_of i.settings.proof old (closing_entry old batch c.outcome ∷ []) in
