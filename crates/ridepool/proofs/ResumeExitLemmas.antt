@@ -41,6 +41,7 @@ use Rattle.report_audit.specs.declared.lines.head_fault.HeadFault.TheVariants as
 use Rattle.report_audit.specs.declared.report.fault.AuditFault.{AuditFault}
 use Rattle.report_audit.specs.declared.report.fault.AuditFault.TheVariants as audit
 use Rattle.report_audit.specs.lines.Head.{BeginsWithHead}
+use Rattle.report_audit.specs.lines.HeadFault.{HeadFails}
 use Rattle.report_past.specs.Past.{MayBeLeft}
 use Rattle.rider_limits.specs.Settings.{AreResumedBy}
 use Rattle.rider_limits.specs.Words.{resume_fault}
@@ -51,8 +52,8 @@ use Rattle.ridepool.proofs.CompleteLemmas.{none_is_no_some, not_long, read_of, s
 use Rattle.ridepool.proofs.FleetLemmas.{one_fleet}
 use Rattle.ridepool.proofs.LiveLemmas.{has-header, no-stop}
 use Rattle.ridepool.proofs.ReadingLemmas.{reads_as, reads_within}
-use Rattle.ridepool.specs.Resume.{AnswersResume, Day, EndsResume, ExplainsResume, HasDay, IsFaultlessResume, IsNoPast, IsResumeStop, ReadsRoads, ResumeCall, SayResume, fault_of_head}
-use Rattle.ridepool.specs.work.Resume.{EndsDay, GotDay, IsReportLimited, IsUnleft, TellsNoDay, day_of}
+use Rattle.ridepool.specs.Resume.{AnswersResume, Day, EndsResume, ExplainsResume, HasDay, IsFaultlessResume, IsNoPast, IsPastOf, IsResumeStop, Kept, ReadsRoads, ResumeCall, SayResume, fault_of_head}
+use Rattle.ridepool.specs.work.Resume.{EndsDay, GotDay, IsReportLimited, IsUnleft, TellsDay, TellsNoDay, day_of, with_times}
 
 -- why a call ended before its report was read
 module _ (call : ResumeCall) (silent : IsUnbegun call.live) (said : ResumeWords) (words : SayResume call.live.words said) where
@@ -146,6 +147,48 @@ tells-hides said roads vehicles bytes (Network fault) why = absurd why
 tells-hides said roads vehicles bytes (Fleet fault) why = absurd why
 tells-hides said roads vehicles bytes (RunStatus.Script fault) why = absurd why
 tells-hides said roads vehicles bytes _ why = tt
+
+-- what the head of a report tells of a day
+module _ (said : ResumeWords) (roads : Roads) (vs vehicles : List Vehicle) (bytes : List ℕ) (are : vs ≡ vehicles) where
+  head-at : (d : Day) (has : HasDay said d bytes) → d.inputs.roads ≡ roads → d.inputs.vehicles ≡ vehicles →
+      BeginsWithHead said.workers roads (length vs) bytes has.told d.text
+  head-at d has roads_are vehicles_are =
+      subst (λ (r : Roads). BeginsWithHead said.workers r (length vs) bytes has.told d.text) roads_are
+      (subst (λ (ws : List Vehicle). BeginsWithHead said.workers d.inputs.roads (length ws) bytes has.told d.text) (vehicles_are ∙ sym are) has.head)
+
+  pub head-untold : (fault : HeadFault) (told : AuditFault) → told ≡ fault_of_head fault → HeadFails roads (length vs) bytes fault
+      → ((s : Settings) (rest : List ℕ) → BeginsWithHead said.workers roads (length vs) bytes s rest → ⊥) → TellsNoDay said roads vehicles bytes (Report told)
+  head-untold fault told is fails none = subst (λ (f : AuditFault). TellsNoDay said roads vehicles bytes (Report f)) (sym is) (
+    head-hides fault,
+    IsNoPast.head fault (subst (λ (ws : List Vehicle). HeadFails roads (length ws) bytes fault) are fails),
+    (λ d has roads_are vehicles_are left. none has.told d.text (head-at d has roads_are vehicles_are)),
+  )
+
+  module _ (told settings : Settings) (rest : List ℕ) (is : settings ≡ with_times told said.times)
+      (begins : BeginsWithHead said.workers roads (length vs) bytes told rest) where
+    day-told : HasDay said (day_of settings roads vehicles rest said) bytes
+    day-told = record {
+      told = told;
+      head = subst (λ (ws : List Vehicle). BeginsWithHead said.workers roads (length ws) bytes told rest) are begins;
+      settings = is;
+      judged = refl;
+    }
+
+    pub past-told : (kept : Kept) → IsPastOf (day_of settings roads vehicles rest said) kept → TellsDay said roads vehicles bytes settings kept
+    past-told kept past = record { text = rest; day = day-told; past = past }
+
+    pub past-untold : (fault : AuditFault) → fault ≢ audit.OutOfMemory → (MayBeLeft settings roads vehicles rest → ⊥)
+        → ((s : Settings) (text : List ℕ) → BeginsWithHead said.workers roads (length vs) bytes s text → (s ≡ told) × (text ≡ rest))
+        → TellsNoDay said roads vehicles bytes (Report fault)
+    past-untold fault other refused only = (
+      other,
+      IsNoPast.past fault (day_of settings roads vehicles rest said) day-told refl refl refused,
+      (λ d has roads_are vehicles_are left.
+          let same = only has.told d.text (head-at d has roads_are vehicles_are) in
+          let settings_are : d.inputs.settings ≡ settings = has.settings ∙ ap (λ (s : Settings). with_times s said.times) same.0 ∙ sym is in
+          refused (subst (λ (t : List ℕ). MayBeLeft settings roads vehicles t) same.1
+          (subst (λ (s : Settings). MayBeLeft s roads vehicles d.text) settings_are left))),
+    )
 
 -- words say one thing
 one-saying : (words : List (List ℕ)) (said told : ResumeWords) → AreResumedBy words said → AreResumedBy words told

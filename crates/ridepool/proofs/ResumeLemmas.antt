@@ -52,6 +52,7 @@ use Rattle.ridepool.proofs.Common.{
   IsSilentCall,
   IsUntouched,
   IsWithin,
+  LiveInputs,
   LiveSeen,
   NotifierView,
   OutOfMemory,
@@ -143,6 +144,20 @@ module _ (settings : Settings) (roads : Roads) (book : BookView) (waits : Option
   )
   caught-up (Err why) c = record { batch = batch; waited = is; stopped = c }
 
+-- what came of it, by its result
+module _ (settings : Settings) (roads : Roads) (old : BookView) (waits : Option Batch) (before after : OutputsView) (result : Result BookView LiveFault)
+    (came : MatchResult result (λ next. CatchesUp settings roads old before waits next after × IsBehindClose settings roads next)
+    (StopsCatching settings roads old waits before after)) where
+  abbrev Came : Result BookView LiveFault → Type 0
+  Came r = MatchResult r (λ next. CatchesUp settings roads old before waits next after × IsBehindClose settings roads next)
+      (StopsCatching settings roads old waits before after)
+
+  pub book-caught : (next : BookView) → result ≡ Ok next → CatchesUp settings roads old before waits next after × IsBehindClose settings roads next
+  book-caught next is = subst Came is came
+
+  pub none-caught : (why : LiveFault) → result ≡ Err why → StopsCatching settings roads old waits before after why
+  none-caught why is = subst Came is came
+
 pub none-waits : (settings : Settings) (roads : Roads) (book : BookView) (waits : Option Batch) (outputs : OutputsView) → IsRestartable settings roads book waits →
     waits ≡ None → CatchesUp settings roads book outputs waits book outputs × IsBehindClose settings roads book
 none-waits settings roads book waits outputs r is = (
@@ -209,32 +224,35 @@ header-stops d seen start.ReadFault status is silent other rose = subst (EndsRes
 header-stops d seen start.OutOfMemory status is silent other rose = subst (EndsResume d seen) (sym is) (EndsResume.unstored (inl silent))
 
 -- a call whose head or kept part isn't written whole
-module _ (d : Day) (seen : LiveSeen) (kept : Kept) (past : IsPastOf d kept) (untold : IsUntouched seen.notifiers) where
-  head-part : AppendsPart seen.out.before.written seen.out.after.written (live_head d.inputs) → BeginsAgain d seen
+module _ (d : Day) (i : LiveInputs) (is : d.inputs ≡ i) (seen : LiveSeen) (kept : Kept) (past : IsPastOf d kept) (untold : IsUntouched seen.notifiers) where
+  copying : AppendsPart seen.out.before.written seen.out.after.written (live_head i ++ kept.text) → BeginsAgain d seen
+  copying part = BeginsAgain.copying kept past
+      (subst (λ (j : LiveInputs). AppendsPart seen.out.before.written seen.out.after.written (live_head j ++ kept.text)) (sym is) part) untold
+
+  head-part : AppendsPart seen.out.before.written seen.out.after.written (live_head i) → BeginsAgain d seen
   head-part part =
       let count = part.0 in
-      let same = take-append-le count (live_head d.inputs) kept.text (omega (arith, part.1)) in
-      BeginsAgain.copying kept past
-      (count, omega (arith, part.1, length-append (live_head d.inputs) kept.text),
+      let same = take-append-le count (live_head i) kept.text (omega (arith, part.1)) in
+      copying (count, omega (arith, part.1, length-append (live_head i) kept.text),
       subst (λ t. Appends seen.out.before.written seen.out.after.written t) (sym same) part.2)
-      untold
 
-  pub copy-stops : (fault : ReportFault) (status : RunStatus) → status ≡ status_of fault → WritesText seen.out (live_head d.inputs) (Err fault) →
+  pub copy-stops : (fault : ReportFault) (status : RunStatus) → status ≡ status_of fault → WritesText seen.out (live_head i) (Err fault) →
       EndsResume d seen status
-  copy-stops report.WriteFault status is wrote = subst (EndsResume d seen) (sym is) (EndsResume.failed (head-part wrote.bytes) (wrote.fault refl))
-  copy-stops report.OutOfMemory status is wrote = subst (EndsResume d seen) (sym is) (EndsResume.unstored (inr (head-part wrote.bytes)))
+  copy-stops report.WriteFault status named wrote = subst (EndsResume d seen) (sym named) (EndsResume.failed (head-part wrote.bytes) (wrote.fault refl))
+  copy-stops report.OutOfMemory status named wrote = subst (EndsResume d seen) (sym named) (EndsResume.unstored (inr (head-part wrote.bytes)))
 
   -- the head was written, and the kept part broke off
-  pub kept-part : (between : SinkView) → Appends seen.out.before.written between.written (live_head d.inputs) →
-      AppendsPart between.written seen.out.after.written kept.text → BeginsAgain d seen
-  kept-part between front part = BeginsAgain.copying kept past
-      (part-behind seen.out.before.written seen.out.after.written (live_head d.inputs) kept.text part.0 part.1
-      (Appends-trans seen.out.before.written between.written seen.out.after.written (live_head d.inputs) (take part.0 kept.text) front part.2))
-      untold
+  module _ (between : SinkView) (front : Appends seen.out.before.written between.written (live_head i))
+      (part : AppendsPart between.written seen.out.after.written kept.text) where
+    kept-part : BeginsAgain d seen
+    kept-part = copying (part-behind seen.out.before.written seen.out.after.written (live_head i) kept.text part.0 part.1
+        (Appends-trans seen.out.before.written between.written seen.out.after.written (live_head i) (take part.0 kept.text) front part.2))
 
-  pub kept-fails : (between : SinkView) → Appends seen.out.before.written between.written (live_head d.inputs) → seen.out.before.faults ≤ between.faults
-      → AppendsPart between.written seen.out.after.written kept.text → Rose between.faults seen.out.after.faults → EndsResume d seen RunStatus.WriteFault
-  kept-fails between front falls part rose = EndsResume.failed (kept-part between front part) (omega (arith, falls, rose))
+    pub kept-fails : seen.out.before.faults ≤ between.faults → Rose between.faults seen.out.after.faults → EndsResume d seen RunStatus.WriteFault
+    kept-fails falls rose = EndsResume.failed kept-part (omega (arith, falls, rose))
+
+    pub kept-unstored : EndsResume d seen OutOfMemory
+    kept-unstored = EndsResume.unstored (inr kept-part)
 
 -- the rows to come are those of later rounds
 later-rows : (last : Option ℕ) (version : ScriptVersion) (script next : Option (List ℕ)) → HasStarted script next version →
@@ -297,18 +315,24 @@ module _ (d : Day) (seen : LiveSeen) (kept : Kept) (past : IsPastOf d kept) (pro
       subst (EndsResume d seen) (sym named) (EndsResume.unstored (inr (begun live.OutOfMemory r.run)))
 
 -- the same, of the values that the calls name
-pub resume-ended : (d : Day) (kept : Kept) → IsPastOf d kept → d.inputs.settings.proof ≡ true → (script next came : Option (List ℕ)) (version known : ScriptVersion)
-    (least : ℕ) (before copied after : OutputsView) (r0 r1 r2 r3 : ℕ) (ended : Result (Unit {0}) LiveFault) (status : RunStatus) → status ≡ status_of_end ended
+pub resume-ended : (d : Day) (i : LiveInputs) → d.inputs ≡ i → (kept : Kept) → IsPastOf d kept → i.settings.proof ≡ true →
+    (script next came : Option (List ℕ)) (version known : ScriptVersion)
+    (least : ℕ) (before copied after : OutputsView) (r0 r1 r2 r3 reads : ℕ) (ended : Result (Unit {0}) LiveFault) (status : RunStatus) →
+    status ≡ status_of_end ended
     → HasStarted script next version → came ≡ next → known ≡ version → least ≡ least_behind kept.last → Copies d kept before copied
     → before.sink.faults ≤ copied.sink.faults → r0 ≤ r1
-    → RunsBehindIt d.inputs.settings d.inputs.roads kept.book kept.open_batch copied after (rows_to_come known least came) r2 r3 ended → r2 ≡ r1
+    → RunsBehindIt i.settings i.roads kept.book kept.open_batch copied after (rows_to_come known least came) r2 reads ended → r2 ≡ r1 → r3 ≡ reads
     → EndsResume d (live_seen script r0 r3 (record { before = before.sink; after = after.sink }) before.notifiers after.notifiers) status
-resume-ended d kept past proof script next came version known least before copied after r0 r1 r2 r3 ended status named started came_is known_is least_is copies
-    falls reads_fall runs same =
+resume-ended d i is kept past proof script next came version known least before copied after r0 r1 r2 r3 reads ended status named started came_is known_is
+    least_is copies falls reads_fall runs same read =
     let seen : LiveSeen = live_seen script r0 r3 (record { before = before.sink; after = after.sink }) before.notifiers after.notifiers in
     let rows : rows_to_come known least came ≡ rows_to_come version (least_behind kept.last) next = (λ k. rows_to_come (known_is k) (least_is k) (came_is k)) in
-    past-ends d seen kept past proof copied copies version next started r2 ended status named falls (omega (arith, reads_fall, same))
-    (subst (λ (r : Option (List ScriptRow)). RunsBehindIt d.inputs.settings d.inputs.roads kept.book kept.open_batch copied after r r2 r3 ended) rows runs)
+    let Runs : LiveInputs → Option (List ScriptRow) → ℕ → Type 0 =
+    λ j r n. RunsBehindIt j.settings j.roads kept.book kept.open_batch copied after r r2 n ended in
+    past-ends d seen kept past (ap (λ (j : LiveInputs). j.settings.proof) is ∙ proof) copied copies version next started r2 ended status named falls
+    (omega (arith, reads_fall, same))
+    (subst (Runs d.inputs (rows_to_come version (least_behind kept.last) next)) (sym read)
+    (subst (λ r. Runs d.inputs r reads) rows (subst (λ j. Runs j (rows_to_come known least came) reads) (sym is) runs)))
 
 -- what a past gives to go on with
 known-node : (nodes : List ℕ) (roads : Roads) (node : ℕ) → nodes ≡ roads.nodes → IsNode nodes node → Contains roads.nodes node

@@ -10,8 +10,10 @@ pub restart-answer-requires-clause-ready : goal.restart-answer-requires-clause-r
 restart-answer-requires-clause-ready g c κs within = c.requires.ready
 
 pub returns-in_default : goal.returns-in_default
-returns-in_default g c = let kept = c.ended.ensures in
-    λ text past. rw (kept.0, kept.1, kept.2, kept.3) (EndsResume.unstored (inl (record { out = refl; notifiers = refl })))
+returns-in_default g c text past =
+    let kept = c.ended.ensures in
+    rw (kept.0, kept.1, kept.2, kept.3) (EndsResume.unstored (inl (record { out = refl; notifiers = refl })))
 
 pub returns : goal.returns
-returns g c = λ text past. c.restart-answer.ensures (day_of c.args.day.settings c.args.inputs.now.network c.args.inputs.now.fleet text c.args.inputs.now.said) refl past
+returns g c text past =
+    c.restart-answer.ensures (day_of c.args.day.settings c.args.inputs.now.network c.args.inputs.now.fleet text c.args.inputs.now.said) refl past

@@ -5,7 +5,7 @@ use Rattle.ridepool.specs.work.Resume.{EndsDay, day_of, kept_of}
 use Rattle.ridepool.proofs.resume_call.resume_in.Goals as goal
 
 pub day_in-requires-clause-named : goal.day_in-requires-clause-named
-day_in-requires-clause-named g c = c.requires.named
+day_in-requires-clause-named g c κs within = c.requires.named
 
 pub go_on-requires-clause-ready : goal.go_on-requires-clause-ready
 go_on-requires-clause-ready g c κs within =
