@@ -149,27 +149,29 @@ tells-hides said roads vehicles bytes (RunStatus.Script fault) why = absurd why
 tells-hides said roads vehicles bytes _ why = tt
 
 -- what the head of a report tells of a day
-module _ (said : ResumeWords) (roads : Roads) (vs vehicles : List Vehicle) (bytes : List ℕ) (are : vs ≡ vehicles) where
+module _ (said : ResumeWords) (roads : Roads) (vs vehicles : List Vehicle) (bytes text : List ℕ) (are : vs ≡ vehicles) (same : text ≡ bytes) where
   head-at : (d : Day) (has : HasDay said d bytes) → d.inputs.roads ≡ roads → d.inputs.vehicles ≡ vehicles →
-      BeginsWithHead said.workers roads (length vs) bytes has.told d.text
+      BeginsWithHead said.workers roads (length vs) text has.told d.text
   head-at d has roads_are vehicles_are =
-      subst (λ (r : Roads). BeginsWithHead said.workers r (length vs) bytes has.told d.text) roads_are
-      (subst (λ (ws : List Vehicle). BeginsWithHead said.workers d.inputs.roads (length ws) bytes has.told d.text) (vehicles_are ∙ sym are) has.head)
+      subst (λ (r : Roads). BeginsWithHead said.workers r (length vs) text has.told d.text) roads_are
+      (subst (λ (ws : List Vehicle). BeginsWithHead said.workers d.inputs.roads (length ws) text has.told d.text) (vehicles_are ∙ sym are)
+      (subst (λ t. BeginsWithHead said.workers d.inputs.roads (length d.inputs.vehicles) t has.told d.text) (sym same) has.head))
 
-  pub head-untold : (fault : HeadFault) (told : AuditFault) → told ≡ fault_of_head fault → HeadFails roads (length vs) bytes fault
-      → ((s : Settings) (rest : List ℕ) → BeginsWithHead said.workers roads (length vs) bytes s rest → ⊥) → TellsNoDay said roads vehicles bytes (Report told)
+  pub head-untold : (fault : HeadFault) (told : AuditFault) → told ≡ fault_of_head fault → HeadFails roads (length vs) text fault
+      → ((s : Settings) (rest : List ℕ) → BeginsWithHead said.workers roads (length vs) text s rest → ⊥) → TellsNoDay said roads vehicles bytes (Report told)
   head-untold fault told is fails none = subst (λ (f : AuditFault). TellsNoDay said roads vehicles bytes (Report f)) (sym is) (
     head-hides fault,
-    IsNoPast.head fault (subst (λ (ws : List Vehicle). HeadFails roads (length ws) bytes fault) are fails),
+    IsNoPast.head fault (subst (λ t. HeadFails roads (length vehicles) t fault) same (subst (λ (ws : List Vehicle). HeadFails roads (length ws) text fault) are fails)),
     (λ d has roads_are vehicles_are left. none has.told d.text (head-at d has roads_are vehicles_are)),
   )
 
   module _ (told settings : Settings) (rest : List ℕ) (is : settings ≡ with_times told said.times)
-      (begins : BeginsWithHead said.workers roads (length vs) bytes told rest) where
+      (begins : BeginsWithHead said.workers roads (length vs) text told rest) where
     day-told : HasDay said (day_of settings roads vehicles rest said) bytes
     day-told = record {
       told = told;
-      head = subst (λ (ws : List Vehicle). BeginsWithHead said.workers roads (length ws) bytes told rest) are begins;
+      head = subst (λ t. BeginsWithHead said.workers roads (length vehicles) t told rest) same
+          (subst (λ (ws : List Vehicle). BeginsWithHead said.workers roads (length ws) text told rest) are begins);
       settings = is;
       judged = refl;
     }
@@ -178,15 +180,15 @@ module _ (said : ResumeWords) (roads : Roads) (vs vehicles : List Vehicle) (byte
     past-told kept past = record { text = rest; day = day-told; past = past }
 
     pub past-untold : (fault : AuditFault) → fault ≢ audit.OutOfMemory → (MayBeLeft settings roads vehicles rest → ⊥)
-        → ((s : Settings) (text : List ℕ) → BeginsWithHead said.workers roads (length vs) bytes s text → (s ≡ told) × (text ≡ rest))
+        → ((s : Settings) (after : List ℕ) → BeginsWithHead said.workers roads (length vs) text s after → (s ≡ told) × (after ≡ rest))
         → TellsNoDay said roads vehicles bytes (Report fault)
     past-untold fault other refused only = (
       other,
       IsNoPast.past fault (day_of settings roads vehicles rest said) day-told refl refl refused,
       (λ d has roads_are vehicles_are left.
-          let same = only has.told d.text (head-at d has roads_are vehicles_are) in
-          let settings_are : d.inputs.settings ≡ settings = has.settings ∙ ap (λ (s : Settings). with_times s said.times) same.0 ∙ sym is in
-          refused (subst (λ (t : List ℕ). MayBeLeft settings roads vehicles t) same.1
+          let one = only has.told d.text (head-at d has roads_are vehicles_are) in
+          let settings_are : d.inputs.settings ≡ settings = has.settings ∙ ap (λ (s : Settings). with_times s said.times) one.0 ∙ sym is in
+          refused (subst (λ (t : List ℕ). MayBeLeft settings roads vehicles t) one.1
           (subst (λ (s : Settings). MayBeLeft s roads vehicles d.text) settings_are left))),
     )
 

@@ -17,7 +17,7 @@ pub returns-in-Err-WriteFault-clause-stopped : goal.returns-in-Err-WriteFault-cl
 returns-in-Err-WriteFault-clause-stopped g c d is past =
     let between : SinkView = record { written = g.K.Sink.written c.write_head.new.sink; faults = g.K.Sink.faults c.write_head.new.sink } in
     kept-fails d _ is _ (kept_of c.args.past.now) past refl between c.in_default.ensures.bytes c.in-Err-WriteFault.ensures.part c.in_default.ensures.never_falls
-    (c.in-Err-WriteFault.ensures.fault refl)
+    (c.in-Err-WriteFault.ensures.fault (ap (λ f. Err f) c.in-Err-WriteFault.field-0-is))
 
 pub returns-in-Err-OutOfMemory-clause-stopped : goal.returns-in-Err-OutOfMemory-clause-stopped
 returns-in-Err-OutOfMemory-clause-stopped g c d is past =

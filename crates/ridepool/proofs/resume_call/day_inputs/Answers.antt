@@ -1,4 +1,4 @@
-use Rattle.std.proofs.Common.{inl, refl}
+use Rattle.std.proofs.Common.{inl, map, refl, string_bytes}
 use Rattle.ridepool.proofs.Common.{source_seen}
 use Rattle.ridepool.proofs.ExitLemmas.{untouched_within}
 use Rattle.ridepool.proofs.InputLemmas.{stop_hides}
@@ -6,7 +6,7 @@ use Rattle.ridepool.proofs.LiveLemmas.{stop-limited}
 use Rattle.ridepool.proofs.ReadingLemmas.{reads_within}
 use Rattle.ridepool.proofs.ResumeExitLemmas.{fleet-stopped, fleet-unjudged, network-stopped, network-unjudged, report-stopped, unread-hides, unread-limited, unread-unjudged}
 use Rattle.pool_base.specs.declared.which.Which.TheVariants as file
-use Rattle.ridepool.specs.Resume.{ExplainsResume}
+use Rattle.ridepool.specs.Resume.{ExplainsResume, SayResume}
 use Rattle.ridepool.proofs.resume_call.day_inputs.Goals as goal
 
 pub returns-in-Err-clause-got : goal.returns-in-Err-clause-got
@@ -17,7 +17,7 @@ returns-in-Err-clause-limited g c = ((inl (untouched_within file.Network (source
 
 pub returns-in-Err-network_from-clause-got : goal.returns-in-Err-network_from-clause-got
 returns-in-Err-network_from-clause-got g c script rest silent =
-    let words = record { faultless = c.in-Ok.ensures.accepted.0; given = c.in-Ok.ensures.accepted.1 } in
+    let words : SayResume (map string_bytes c.args.words.now) c.in-Ok.said = record { faultless = c.in-Ok.ensures.accepted.0; given = c.in-Ok.ensures.accepted.1 } in
     network-stopped _ silent c.in-Ok.said words c.in-Err-network_from.status refl refl c.in-Err-network_from.ensures
 
 pub returns-in-Err-network_from-clause-limited : goal.returns-in-Err-network_from-clause-limited
@@ -32,7 +32,7 @@ returns-in-Err-network_from-clause-unjudged g c = network-unjudged _ c.in-Err-ne
 
 pub returns-in-Err-fleet_from-clause-got : goal.returns-in-Err-fleet_from-clause-got
 returns-in-Err-fleet_from-clause-got g c script rest silent =
-    let words = record { faultless = c.in-Ok.ensures.accepted.0; given = c.in-Ok.ensures.accepted.1 } in
+    let words : SayResume (map string_bytes c.args.words.now) c.in-Ok.said = record { faultless = c.in-Ok.ensures.accepted.0; given = c.in-Ok.ensures.accepted.1 } in
     fleet-stopped _ silent c.in-Ok.said words c.in-Ok-network_from.network c.in-Ok-network_from.ensures c.in-Err-fleet_from.status refl
     c.in-Err-fleet_from.ensures.read
 
@@ -63,7 +63,7 @@ returns-in-Ok-read_input-clause-limited g c =
 
 pub returns-in-Err-read_input-clause-got : goal.returns-in-Err-read_input-clause-got
 returns-in-Err-read_input-clause-got g c script rest silent =
-    let words = record { faultless = c.in-Ok.ensures.accepted.0; given = c.in-Ok.ensures.accepted.1 } in
+    let words : SayResume (map string_bytes c.args.words.now) c.in-Ok.said = record { faultless = c.in-Ok.ensures.accepted.0; given = c.in-Ok.ensures.accepted.1 } in
     report-stopped _ silent c.in-Ok.said words c.in-Ok-network_from.network c.in-Ok-network_from.ensures c.in-Ok-fleet_from.fleet c.in-Err-read_input.status
     c.in-Ok-fleet_from.ensures.read c.in-Err-read_input.ensures
 

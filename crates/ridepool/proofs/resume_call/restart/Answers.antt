@@ -1,12 +1,12 @@
-use Rattle.std.proofs.Common.{ap}
+use Rattle.std.proofs.Common.{rules, ap}
 use Rattle.ridepool.proofs.Common.{Streamed}
 use Rattle.live_dispatch.specs.Desk.{OutputsView, outputs_seen}
 use Rattle.ridepool.proofs.ResumeLemmas.{resume-ended}
 use Rattle.ridepool.specs.work.Resume.{kept_of}
 use Rattle.ridepool.proofs.resume_call.restart.Goals as goal
 
-pub behind_round-rows-requires-clause-round : goal.behind_round-rows-requires-clause-round
-behind_round-rows-requires-clause-round g c κs within = c.requires.ready.round
+pub behind_round-rows-requires : goal.behind_round-rows-requires
+behind_round-rows-requires g c = search (rules, c.requires.ready.round)
 
 pub run_behind-dispatched-requires-clause-ready : goal.run_behind-dispatched-requires-clause-ready
 run_behind-dispatched-requires-clause-ready g c κs within = c.requires.ready.ready
