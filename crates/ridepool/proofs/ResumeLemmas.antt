@@ -47,6 +47,7 @@ use Rattle.ridepool.proofs.Common.{
   AreLimited,
   BookView,
   Change,
+  HaveHeard,
   HidesNoMemory,
   IsReady,
   IsSilentCall,
@@ -253,6 +254,16 @@ module _ (d : Day) (i : LiveInputs) (is : d.inputs ≡ i) (seen : LiveSeen) (kep
 
     pub kept-unstored : EndsResume d seen OutOfMemory
     kept-unstored = EndsResume.unstored (inr kept-part)
+
+-- head and kept part were written, and the notices told
+pub copied-of : (d : Day) (i : LiveInputs) → d.inputs ≡ i → (kept : Kept) (before after : OutputsView) (between : SinkView) →
+    Appends before.sink.written between.written (live_head i)
+    → Appends between.written after.sink.written kept.text → HaveHeard kept.notices before.notifiers after.notifiers → Copies d kept before after
+copied-of d i is kept before after between front rest told = record {
+  text = subst (λ (j : LiveInputs). Appends before.sink.written after.sink.written (live_head j ++ kept.text)) (sym is)
+      (Appends-trans before.sink.written between.written after.sink.written (live_head i) kept.text front rest);
+  told = told;
+}
 
 -- the rows to come are those of later rounds
 later-rows : (last : Option ℕ) (version : ScriptVersion) (script next : Option (List ℕ)) → HasStarted script next version →

@@ -1,6 +1,7 @@
 use Rattle.std.proofs.Common.{Err, refl, ap}
 use Rattle.ridepool.proofs.Common.{SinkView}
-use Rattle.ridepool.proofs.ResumeLemmas.{copy-stops, header-stops, kept-fails, kept-unstored}
+use Rattle.live_dispatch.specs.Desk.{OutputsView, outputs_seen}
+use Rattle.ridepool.proofs.ResumeLemmas.{copied-of, copy-stops, header-stops, kept-fails, kept-unstored}
 use Rattle.ridepool.specs.work.Resume.{kept_of}
 use Rattle.ridepool.proofs.resume_call.copy_past.Goals as goal
 
@@ -12,6 +13,18 @@ returns-in-Err-clause-stopped g c d is past =
 pub returns-in-Err-write_head-clause-stopped : goal.returns-in-Err-write_head-clause-stopped
 returns-in-Err-write_head-clause-stopped g c d is past =
     copy-stops d _ is _ (kept_of c.args.past.now) past refl c.in-Err-write_head.fault c.status_of.result c.status_of.ensures c.in-Err-write_head.ensures
+
+pub returns-in-Ok-write_all-clause-copied : goal.returns-in-Ok-write_all-clause-copied
+returns-in-Ok-write_all-clause-copied g c = (
+  c.in-Ok.ensures.started,
+  (λ d is.
+      let between : SinkView = record { written = g.K.Sink.written c.write_head.new.sink; faults = g.K.Sink.faults c.write_head.new.sink } in
+      let before : OutputsView = outputs_seen g.K.Sink.written g.K.Sink.faults g.N.Notifier.told g.N.Notifier.faults g.N.Notifier.steady
+      c.args.outputs.now.sink c.args.outputs.now.notifiers.items in
+      let after : OutputsView = outputs_seen g.K.Sink.written g.K.Sink.faults g.N.Notifier.told g.N.Notifier.faults g.N.Notifier.steady
+      c.write_all.new.sink c.tell_all.new.notifiers.items in
+      copied-of d _ is (kept_of c.args.past.now) before after between c.in_default.ensures.bytes c.in-Ok-write_all.ensures.whole c.tell_all.ensures.heard),
+)
 
 pub returns-in-Err-WriteFault-clause-stopped : goal.returns-in-Err-WriteFault-clause-stopped
 returns-in-Err-WriteFault-clause-stopped g c d is past =
