@@ -1,5 +1,5 @@
 -- Bytes give one fleet.
-use Rattle.std.proofs.Common.{◌≡◌, ℕ, zero, suc, ◌<◌, List, [], ◌∷◌, Contains, Result, Ok, refl, sym, ap, subst, ◌∙◌, inl, inr, arith, ◌⊎◌, ⊎_elim}
+use Rattle.std.proofs.Common.{◌≡◌, ℕ, zero, suc, ◌<◌, List, [], ◌∷◌, Contains, refl, sym, ap, subst, ◌∙◌, inl, inr, arith, ◌⊎◌}
 use Rattle.ridepool.proofs.Common.{IsFleetIn, Vehicle, vehicles_in}
 use Rattle.request_book.proofs.lemmas.values.KeyedLemmas.{rise_from_increasing}
 unfoldable use Rattle.request_book.specs.values.Keyed.{AllAbove, KeysRise}
@@ -31,9 +31,9 @@ module _ (x y : Vehicle) (xs ys : List Vehicle) (up : KeysRise id_of (x ∷ xs))
   first-same = elim (member-cases y ys x (forth x (0, omega arith, refl))) [
     | inl is ↦ sym is
     | inr later ↦ elim (member-cases x xs y (back y (0, omega arith, refl))) [
-        | inl is ↦ is
-        | inr behind ↦ absurd (omega (arith, member-above y.id ys rise.0 x later, member-above x.id xs up.0 y behind))
-      ]
+      | inl is ↦ is
+      | inr behind ↦ absurd (omega (arith, member-above y.id ys rise.0 x later, member-above x.id xs up.0 y behind))
+    ]
   ]
 
   rest-within : Within xs ys

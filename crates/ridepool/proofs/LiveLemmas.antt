@@ -175,23 +175,25 @@ module _ (call : LiveCall) (silent : IsUnbegun call) where
 
 -- where network and fleet tell what gives inputs, neither stops a call
 module _ (network fleet : Change SourceView) (i : LiveInputs) (network_text fleet_text : List ℕ) (tells : Tells file.Network network network_text)
-    (roads : network_in network_text ≡ Ok i.roads) (tells_fleet : Tells file.Fleet fleet fleet_text) (vehicles : IsFleetIn i.roads.nodes fleet_text i.vehicles) where
-  pub no-stop : (status : RunStatus) → IsLiveStop network fleet status → ⊥
-  no-stop _ (IsLiveStop.network_refused fault why untouched) =
-      ok_is_no_err (network_in network_text) i.roads fault roads (read_of network network_text (λ b. network_in b ≡ Err fault) tells why)
-  no-stop _ (IsLiveStop.network_long why untouched) = not_long file.Network network network_text tells why
-  no-stop _ (IsLiveStop.network_unread within rose untouched) = tells.faultless rose
-  no-stop _ (IsLiveStop.fleet_refused fault why) =
-      let same : why.0 ≡ i.roads = same_value (network_in network_text) why.0 i.roads
-      (read_of network network_text (λ b. network_in b ≡ Ok why.0) tells why.1) roads in
-      let refused = read_of fleet fleet_text (λ b. vehicles_in why.0.nodes b ≡ Err fault) tells_fleet why.2 in
-      let P : Roads → Type 0 = λ r. vehicles_in r.nodes fleet_text ≡ Err fault in
-      ok_is_no_err (vehicles_in i.roads.nodes fleet_text) vehicles.vehicles fault vehicles.read (subst P same refused)
-  no-stop _ (IsLiveStop.fleet_long why) = not_long file.Fleet fleet fleet_text tells_fleet why.2
-  no-stop _ (IsLiveStop.fleet_unread why) = tells_fleet.faultless why.2.1
+    (roads : network_in network_text ≡ Ok i.roads) (tells_fleet : Tells file.Fleet fleet fleet_text) (vehicles : IsFleetIn i.roads.nodes fleet_text i.vehicles)
+  where
+    pub no-stop : (status : RunStatus) → IsLiveStop network fleet status → ⊥
+    no-stop _ (IsLiveStop.network_refused fault why untouched) =
+        ok_is_no_err (network_in network_text) i.roads fault roads (read_of network network_text (λ b. network_in b ≡ Err fault) tells why)
+    no-stop _ (IsLiveStop.network_long why untouched) = not_long file.Network network network_text tells why
+    no-stop _ (IsLiveStop.network_unread within rose untouched) = tells.faultless rose
+    no-stop _ (IsLiveStop.fleet_refused fault why) =
+        let same : why.0 ≡ i.roads = same_value (network_in network_text) why.0 i.roads
+        (read_of network network_text (λ b. network_in b ≡ Ok why.0) tells why.1) roads in
+        let refused = read_of fleet fleet_text (λ b. vehicles_in why.0.nodes b ≡ Err fault) tells_fleet why.2 in
+        let P : Roads → Type 0 = λ r. vehicles_in r.nodes fleet_text ≡ Err fault in
+        ok_is_no_err (vehicles_in i.roads.nodes fleet_text) vehicles.vehicles fault vehicles.read (subst P same refused)
+    no-stop _ (IsLiveStop.fleet_long why) = not_long file.Fleet fleet fleet_text tells_fleet why.2
+    no-stop _ (IsLiveStop.fleet_unread why) = tells_fleet.faultless why.2.1
 
 -- where nothing is wrong, a call is done or out of memory
-pub has-header : (script : Option (List ℕ)) (text : List ℕ) (rows : List ScriptRow) (why : HeaderFault) → script ≡ Some text → live_rows (lines_in text) ≡ Ok rows →
+pub has-header : (script : Option (List ℕ)) (text : List ℕ) (rows : List ScriptRow) (why : HeaderFault) → script ≡ Some text →
+    live_rows (lines_in text) ≡ Ok rows →
     HasNoHeader script why → ⊥
 has-header script text rows why told header other =
     let P : Option (List ℕ) → Type 0 = λ s. HasNoHeader s why in ok_is_no_err (live_rows (lines_in text)) rows why header (subst P told other)

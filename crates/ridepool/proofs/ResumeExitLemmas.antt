@@ -1,24 +1,19 @@
 -- How a call of `resume` ends: at its words and inputs, at its report, or behind them.
-use Rattle.std.proofs.Common.{◌≡◌, ◌≢◌, ℕ, ◌<◌, List, [], ◌∷◌, length, map, Contains, Option, Some, None, Result, Ok, Err, refl, sym, ap, subst, ◌∙◌, inl, inr, arith, ◌⊎◌}
+use Rattle.std.proofs.Common.{◌≡◌, ◌≢◌, ℕ, List, [], ◌∷◌, length, Ok, refl, sym, ap, subst, ◌∙◌, inl, inr, arith, ◌⊎◌}
 use Rattle.ridepool.proofs.Common.{
   AreLimited,
   Change,
   Done,
   Fleet,
   HidesNoMemory,
-  Input,
   IsFleetIn,
   IsLiveStop,
-  IsSilentCall,
   IsUnbegun,
   IsUnread,
   IsUntouched,
-  IsWithin,
-  LiveCall,
   LiveSeen,
   Network,
   OutOfMemory,
-  ReadFault,
   Reads,
   Report,
   Roads,
@@ -27,10 +22,8 @@ use Rattle.ridepool.proofs.Common.{
   Settings,
   SourceView,
   StopsAt,
-  Tells,
   TooLong,
   Vehicle,
-  Words,
   network_in,
   vehicles_in,
 }
@@ -47,19 +40,34 @@ use Rattle.rider_limits.specs.Settings.{AreResumedBy}
 use Rattle.rider_limits.specs.Words.{resume_fault}
 use Rattle.rider_limits.specs.declared.resume_words.ResumeWords.{ResumeWords}
 use Rattle.rider_limits.specs.declared.settings.TimesWay.{TimesWay}
-use Rattle.rider_limits.specs.declared.word_fault.WordFault.{WordFault}
 use Rattle.ridepool.proofs.CompleteLemmas.{none_is_no_some, not_long, read_of, same_value}
 use Rattle.ridepool.proofs.FleetLemmas.{one_fleet}
 use Rattle.ridepool.proofs.LiveLemmas.{has-header, no-stop}
-use Rattle.ridepool.proofs.ReadingLemmas.{reads_as, reads_within}
-use Rattle.ridepool.specs.Resume.{AnswersResume, Day, EndsResume, ExplainsResume, HasDay, IsFaultlessResume, IsNoPast, IsPastOf, IsResumeStop, Kept, ReadsRoads, ResumeCall, SayResume, fault_of_head}
+use Rattle.ridepool.proofs.ReadingLemmas.{reads_as}
+use Rattle.ridepool.specs.Resume.{
+  AnswersResume,
+  Day,
+  EndsResume,
+  ExplainsResume,
+  HasDay,
+  IsFaultlessResume,
+  IsNoPast,
+  IsPastOf,
+  IsResumeStop,
+  Kept,
+  ResumeCall,
+  SayResume,
+  fault_of_head,
+}
 use Rattle.ridepool.specs.work.Resume.{EndsDay, GotDay, IsReportLimited, IsUnleft, TellsDay, TellsNoDay, day_of, with_times}
 
 -- why a call ended before its report was read
 module _ (call : ResumeCall) (silent : IsUnbegun call.live) (said : ResumeWords) (words : SayResume call.live.words said) where
-  pub network-stopped : (status : RunStatus) → IsUntouched call.live.fleet → IsUntouched call.report → StopsAt call.live.network file.Network Network network_in status
+  pub network-stopped : (status : RunStatus) → IsUntouched call.live.fleet → IsUntouched call.report →
+      StopsAt call.live.network file.Network Network network_in status
       → ExplainsResume call status
-  network-stopped _ fleet report (StopsAt.unread _ (IsUnread.long why)) = ExplainsResume.stopped said _ words (IsResumeStop.inputs _ (IsLiveStop.network_long why fleet) report) silent
+  network-stopped _ fleet report (StopsAt.unread _ (IsUnread.long why)) = ExplainsResume.stopped said _ words
+      (IsResumeStop.inputs _ (IsLiveStop.network_long why fleet) report) silent
   network-stopped _ fleet report (StopsAt.unread _ (IsUnread.failed within rose)) =
       ExplainsResume.stopped said _ words (IsResumeStop.inputs _ (IsLiveStop.network_unread within rose fleet) report) silent
   network-stopped _ fleet report (StopsAt.unread _ (IsUnread.memory within)) = ExplainsResume.unstored silent
@@ -109,7 +117,8 @@ network-unjudged s _ (StopsAt.unread _ (IsUnread.failed within rose)) fault is =
 network-unjudged s _ (StopsAt.unread _ (IsUnread.memory within)) fault is = cc
 network-unjudged s _ (StopsAt.refused why reads hides) fault is = cc
 
-pub fleet-unjudged : (s : Change SourceView) (nodes : List ℕ) (status : RunStatus) → StopsAt s file.Fleet Fleet (vehicles_in nodes) status → (fault : AuditFault) →
+pub fleet-unjudged : (s : Change SourceView) (nodes : List ℕ) (status : RunStatus) → StopsAt s file.Fleet Fleet (vehicles_in nodes) status →
+    (fault : AuditFault) →
     status ≢ Report fault
 fleet-unjudged s nodes _ (StopsAt.unread _ (IsUnread.long why)) fault is = cc
 fleet-unjudged s nodes _ (StopsAt.unread _ (IsUnread.failed within rose)) fault is = cc
@@ -139,7 +148,8 @@ ends-unjudged d seen _ (EndsResume.unread _ _) fault is = cc
 ends-unjudged d seen _ (EndsResume.failed _ _) fault is = cc
 ends-unjudged d seen _ (EndsResume.unstored _) fault is = cc
 
-tells-hides : (said : ResumeWords) (roads : Roads) (vehicles : List Vehicle) (bytes : List ℕ) (status : RunStatus) → TellsNoDay said roads vehicles bytes status →
+tells-hides : (said : ResumeWords) (roads : Roads) (vehicles : List Vehicle) (bytes : List ℕ) (status : RunStatus) →
+    TellsNoDay said roads vehicles bytes status →
     HidesNoMemory status
 tells-hides said roads vehicles bytes (Report fault) why = why.0
 tells-hides said roads vehicles bytes OutOfMemory why = tt
@@ -161,7 +171,8 @@ module _ (said : ResumeWords) (roads : Roads) (vs vehicles : List Vehicle) (byte
       → ((s : Settings) (rest : List ℕ) → BeginsWithHead said.workers roads (length vs) text s rest → ⊥) → TellsNoDay said roads vehicles bytes (Report told)
   head-untold fault told is fails none = subst (λ (f : AuditFault). TellsNoDay said roads vehicles bytes (Report f)) (sym is) (
     head-hides fault,
-    IsNoPast.head fault (subst (λ t. HeadFails roads (length vehicles) t fault) same (subst (λ (ws : List Vehicle). HeadFails roads (length ws) text fault) are fails)),
+    IsNoPast.head fault (subst (λ t. HeadFails roads (length vehicles) t fault) same (subst (λ (ws : List Vehicle). HeadFails roads (length ws) text fault) are
+        fails)),
     (λ d has roads_are vehicles_are left. none has.told d.text (head-at d has roads_are vehicles_are)),
   )
 
@@ -216,7 +227,8 @@ module _ (call : ResumeCall) (f : IsFaultlessResume call) where
   no-resume-stop said _ (IsResumeStop.report_unread roads vehicles read within rose) judged = f.report.faultless rose
   no-resume-stop said _ (IsResumeStop.report_refused roads vehicles fault read why) judged = judged fault refl
 
-  no-resume-end : (d : Day) (status : RunStatus) → (Rose call.live.rest.out.before.faults call.live.rest.out.after.faults → ⊥) → EndsResume d call.live.rest status
+  no-resume-end : (d : Day) (status : RunStatus) → (Rose call.live.rest.out.before.faults call.live.rest.out.after.faults → ⊥) →
+      EndsResume d call.live.rest status
       → (status ≡ Done) ⊎ (status ≡ OutOfMemory)
   no-resume-end d _ writes (EndsResume.done resumes) = inl refl
   no-resume-end d _ writes (EndsResume.headless why other silent) = absurd (has-header call.live.rest.script f.text f.rows why f.told f.header other)
@@ -254,7 +266,8 @@ module _ (call : ResumeCall) (said : ResumeWords) (roads : Roads) (vehicles : Li
     (status : RunStatus) where
   untold : (why : RunStatus) → TellsNoDay said roads vehicles bytes why → IsUnbegun call.live → ExplainsResume call why
   untold (Report fault) why silent = ExplainsResume.stopped said (Report fault) got.words
-      (IsResumeStop.report_refused roads vehicles fault got.read (reads_as call.report bytes (λ b. IsNoPast said roads vehicles b fault) got.report why.1)) silent
+      (IsResumeStop.report_refused roads vehicles fault got.read (reads_as call.report bytes (λ b. IsNoPast said roads vehicles b fault) got.report why.1))
+      silent
   untold OutOfMemory why silent = ExplainsResume.unstored silent
   untold _ why silent = absurd why
 
@@ -269,7 +282,8 @@ module _ (call : ResumeCall) (said : ResumeWords) (roads : Roads) (vehicles : Li
   hides (EndsDay.untold why silent script) = tells-hides said roads vehicles bytes status why
   hides (EndsDay.went_on settings text day ends) = ends-hide (day_of settings roads vehicles text said) call.live.rest status ends
 
-  unjudged : IsFaultlessResume call → EndsDay said roads vehicles bytes call.live.rest call.live.script status → (fault : AuditFault) → status ≡ Report fault → ⊥
+  unjudged : IsFaultlessResume call → EndsDay said roads vehicles bytes call.live.rest call.live.script status → (fault : AuditFault) → status ≡ Report fault →
+      ⊥
   unjudged f (EndsDay.untold why silent script) fault is =
       let told : TellsNoDay said roads vehicles bytes (Report fault) = subst (TellsNoDay said roads vehicles bytes) is why in
       unleft-is-false call f said roads vehicles bytes got told.2

@@ -1,21 +1,16 @@
 -- A call of `resume`, from its steps.
 use Rattle.std.proofs.Common.{
   ◌≡◌,
-  ◌≢◌,
   ℕ,
   ◌+◌,
   ◌≤◌,
-  ◌<◌,
-  ◌^◌,
   true,
   List,
   [],
   ◌∷◌,
   ◌++◌,
-  length,
   take,
   get_or,
-  All,
   Contains,
   eqb,
   Option,
@@ -44,33 +39,23 @@ use Rattle.ridepool.proofs.Common.{
   Appends,
   AppendsPart,
   Appends-trans,
-  AreLimited,
   BookView,
-  Change,
   HaveHeard,
-  HidesNoMemory,
-  IsReady,
   IsSilentCall,
   IsUntouched,
-  IsWithin,
   LiveInputs,
   LiveSeen,
-  NotifierView,
   OutOfMemory,
   ReadFault,
-  Report,
   ReportFault,
   Roads,
   Rose,
   RunStatus,
   Settings,
   SinkView,
-  SourceView,
   Vehicle,
   WritesText,
   live_head,
-  opening,
-  position_after_run,
   status_of,
 }
 use Rattle.dispatch_report.specs.declared.fault.ReportFault.TheVariants as report
@@ -81,18 +66,12 @@ use Rattle.input_rows.specs.declared.script.script_row.ScriptRow.{ScriptRow}
 use Rattle.input_rows.specs.declared.script.version.ScriptVersion.{ScriptVersion}
 use Rattle.input_rows.specs.live.Rows.{least_behind, rows_to_come}
 use Rattle.input_rows.specs.live.Start.{HasNoHeader, HasStarted}
-use Rattle.input_rows.specs.script.ScriptRow.{IsBehind}
 use Rattle.live_dispatch.proofs.StandLemmas.{part-behind}
 use Rattle.live_dispatch.specs.Closing.{IsClosedTo, StopsClose}
 use Rattle.live_dispatch.specs.Desk.{OutputsView}
 use Rattle.live_dispatch.specs.Live.{BeginsRows, RunsRows}
 use Rattle.live_dispatch.specs.declared.fault.LiveFault.{LiveFault}
 use Rattle.live_dispatch.specs.declared.fault.LiveFault.TheVariants as live
-use Rattle.pool_base.specs.declared.which.Which.TheVariants as file
-use Rattle.report_audit.specs.declared.lines.head_fault.HeadFault.{HeadFault}
-use Rattle.report_audit.specs.declared.lines.head_fault.HeadFault.TheVariants as of_head
-use Rattle.report_audit.specs.declared.report.fault.AuditFault.{AuditFault}
-use Rattle.report_audit.specs.declared.report.fault.AuditFault.TheVariants as audit
 use Rattle.report_past.proofs.StepLemmas.{closed_state}
 use Rattle.report_past.specs.Past.{StandsBehind, last_round}
 use Rattle.report_past.specs.Told.{AreScriptRows}
@@ -101,7 +80,6 @@ use Rattle.request_book.specs.Points.{named_nodes}
 use Rattle.request_book.specs.values.Batch.{Batch}
 use Rattle.request_book.specs.declared.values.journal.Journal.{Journal}
 use Rattle.ridepool.proofs.ResumedRunLemmas.{rounds-joined, whole}
-use Rattle.ridepool.specs.Live.{headless_status}
 use Rattle.ridepool.specs.Resume.{
   AreLaterRowsOf,
   BeginsAgain,
@@ -110,13 +88,11 @@ use Rattle.ridepool.specs.Resume.{
   Day,
   EndsResume,
   HasCaughtUp,
-  HasDay,
   IsPastOf,
   Kept,
   RunsBehind,
   at_entry,
   at_exit,
-  fault_of_head,
 }
 use Rattle.ridepool.specs.work.Live.{live_seen, status_of_end, status_of_start}
 use Rattle.ridepool.specs.work.Resume.{CaughtUp, GoesOn, IsBehindClose, IsRestartable, RunsBehindIt, StopsCatching}
@@ -159,7 +135,8 @@ module _ (settings : Settings) (roads : Roads) (old : BookView) (waits : Option 
   pub none-caught : (why : LiveFault) → result ≡ Err why → StopsCatching settings roads old waits before after why
   none-caught why is = subst Came is came
 
-pub none-waits : (settings : Settings) (roads : Roads) (book : BookView) (waits : Option Batch) (outputs : OutputsView) → IsRestartable settings roads book waits →
+pub none-waits : (settings : Settings) (roads : Roads) (book : BookView) (waits : Option Batch) (outputs : OutputsView) →
+    IsRestartable settings roads book waits →
     waits ≡ None → CatchesUp settings roads book outputs waits book outputs × IsBehindClose settings roads book
 none-waits settings roads book waits outputs r is = (
   subst (λ (w : Option Batch). CatchesUp settings roads book outputs w book outputs) (sym is) CatchesUp.none,
@@ -204,7 +181,8 @@ close-stops settings roads old waits before after rows reads why stops falls = r
     same : (r : Result (Unit {0}) LiveFault) (a b : LiveFault) → r ≡ Err a → IsErrOf r b → a ≡ b
     same r a b is has = cc (is, has)
 
-    rose : (fault : LiveFault) → StopsClose settings roads stops.batch old before after fault → fault ≡ live.WriteFault → Rose before.sink.faults after.sink.faults
+    rose : (fault : LiveFault) → StopsClose settings roads stops.batch old before after fault → fault ≡ live.WriteFault →
+        Rose before.sink.faults after.sink.faults
     rose _ (StopsClose.failed breaks rises) is = rises
     rose _ (StopsClose.unwritten kept) is = absurd cc
     rose _ (StopsClose.broken breaks) is = absurd cc
@@ -234,8 +212,11 @@ module _ (d : Day) (i : LiveInputs) (is : d.inputs ≡ i) (seen : LiveSeen) (kep
   head-part part =
       let count = part.0 in
       let same = take-append-le count (live_head i) kept.text (omega (arith, part.1)) in
-      copying (count, omega (arith, part.1, length-append (live_head i) kept.text),
-      subst (λ t. Appends seen.out.before.written seen.out.after.written t) (sym same) part.2)
+      copying (
+        count,
+        omega (arith, part.1, length-append (live_head i) kept.text),
+        subst (λ t. Appends seen.out.before.written seen.out.after.written t) (sym same) part.2,
+      )
 
   pub copy-stops : (fault : ReportFault) (status : RunStatus) → status ≡ status_of fault → WritesText seen.out (live_head i) (Err fault) →
       EndsResume d seen status

@@ -1,5 +1,5 @@
 -- A day that goes on: what is kept of it, the close of a batch that was open, and a run behind it, as one run and its report.
-use Rattle.std.proofs.Common.{◌≡◌, ℕ, ◌+◌, ◌≤◌, true, List, [], ◌∷◌, ◌++◌, Option, Some, None, Ok, Err, refl, sym, ap, subst, ◌∙◌, append_assoc, arith}
+use Rattle.std.proofs.Common.{◌≡◌, ℕ, ◌+◌, ◌≤◌, true, List, [], ◌∷◌, ◌++◌, Option, Some, None, Ok, refl, sym, ap, subst, ◌∙◌, append_assoc, arith}
 use Rattle.std.proofs.lemmas.List.Elements.{All-cons, All-nil, All-weaker}
 use Rattle.ridepool.proofs.Common.{Appends, Appends-trans, BookView, IsRun, LiveInputs, LiveSeen, live_head, opening, position_after_run, state_after_run}
 use Rattle.std.specs.List.{All}
@@ -12,16 +12,16 @@ use Rattle.input_rows.specs.declared.script.script_row.ScriptRow.{ScriptRow}
 use Rattle.input_rows.specs.declared.script.version.ScriptVersion.{ScriptVersion}
 use Rattle.input_rows.specs.live.Lines.{lines_in}
 use Rattle.input_rows.specs.live.Rows.{accepted, judged, least_behind, next_row, rows_to_come}
-use Rattle.input_rows.specs.script.ScriptRow.{IsBehind, script_row_in}
+use Rattle.input_rows.specs.script.ScriptRow.{script_row_in}
 use Rattle.live_dispatch.proofs.lemmas.EntryLemmas.{one-text}
-use Rattle.live_dispatch.specs.Closing.{IsClosedTo, book_behind, closing_entry}
+use Rattle.live_dispatch.specs.Closing.{book_behind, closing_entry}
 use Rattle.live_dispatch.specs.Desk.{OutputsView, text_of}
-use Rattle.live_dispatch.specs.Live.{RunsRows, journals_text, rows_rounds, rows_text}
+use Rattle.live_dispatch.specs.Live.{journals_text, rows_rounds, rows_text}
 use Rattle.report_past.proofs.CloseLemmas.{Has, good_last, has_some, position_last, state_last, text_last}
 use Rattle.report_past.proofs.LaterLemmas.{later_rounds}
 use Rattle.report_past.proofs.LawLemmas.{goes_on, position-append, texts-append}
 use Rattle.report_past.proofs.StepLemmas.{closed_reply}
-use Rattle.report_past.specs.Past.{IsPast, StandsBehind, last_round}
+use Rattle.report_past.specs.Past.{StandsBehind, last_round}
 use Rattle.report_past.specs.Told.{AreScriptRows, IsLater, IsToldRun, PastIsGood, close_of, closed_with, with_last}
 use Rattle.request_book.specs.Book.{next_position}
 use Rattle.request_book.specs.register.Step.{step}
@@ -78,7 +78,8 @@ module _ (i : LiveInputs) (rows : List ScriptRow) where
       journals = told ++ journals;
       run = joined-run run;
       text = subst (λ t. Appends seen.out.before.written seen.out.after.written t) joined-text
-          (Appends-trans seen.out.before.written behind seen.out.after.written (live_head i ++ old_text told) (rows_text i.settings i.roads book.first new journals)
+          (Appends-trans seen.out.before.written behind seen.out.after.written (live_head i ++ old_text told)
+          (rows_text i.settings i.roads book.first new journals)
           front rest);
     }
 
@@ -165,7 +166,8 @@ From least row = least ≤ row.round
 
 accepted-from : (version : ScriptVersion) (least : ℕ) (lines : List (List ℕ)) → All (From least) (accepted version least lines)
 accepted-from version least [] = All-nil (From least)
-accepted-from version least (line ∷ lines) = by (judged version least line) refl (accepted-from version least lines) (λ round. accepted-from version round lines)
+accepted-from version least (line ∷ lines) = by (judged version least line) refl (accepted-from version least lines)
+    (λ round. accepted-from version round lines)
   where
     by : (j : Judged) → judged version least line ≡ j → All (From least) (accepted version least lines) →
         ((round : ℕ) → All (From round) (accepted version round lines))
@@ -185,7 +187,8 @@ pub rounds-joined : (version : ScriptVersion) (last : Option ℕ) (next : Option
     → (told : List ScriptRow) → rows_to_come version (least_behind last) next ≡ Some told → rows_rounds (old ++ told) ≡ rows_rounds old ++ rows_rounds told
 rounds-joined version last None old lawful is told come = absurd (let no : None ≡ Some told = come in cc)
 rounds-joined version last (Some text) old lawful is told come =
-    let told_is : accepted version (least_behind last) (lines_in text) ≡ told = (let e : Some (accepted version (least_behind last) (lines_in text)) ≡ Some told =
+    let told_is : accepted version (least_behind last) (lines_in text) ≡ told = (let e : Some (accepted version (least_behind last) (lines_in text)) ≡ Some
+    told =
     come in cc) in
     later_rounds old told lawful (subst (λ l. All (IsLater l) told) is
     (subst (λ rs. All (IsLater last) rs) told_is (later-of last (accepted version (least_behind last) (lines_in text))

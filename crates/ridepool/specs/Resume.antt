@@ -6,7 +6,6 @@ use Rattle.dispatch_report.specs.Round.{end_text}
 use Rattle.input_rows.specs.live.Lines.{lines_in}
 use Rattle.input_rows.specs.live.Rows.{least_behind}
 use Rattle.input_rows.specs.live.Start.{HasNoHeader, live_rows, rows_from}
-use Rattle.input_rows.specs.declared.fleet.fault.FleetFault.{FleetFault}
 use Rattle.input_rows.specs.declared.live.start.HeaderFault.{HeaderFault}
 use Rattle.input_rows.specs.declared.script.script_row.ScriptRow.{ScriptRow}
 use Rattle.live_dispatch.specs.Closing.{IsClosedTo, StopsClose}
@@ -16,7 +15,7 @@ use Rattle.live_dispatch.specs.declared.fault.LiveFault.{LiveFault}
 use Rattle.pool_base.specs.declared.which.Which.TheVariants as file
 use Rattle.pool_io.specs.Faults.{Rose}
 use Rattle.pool_io.specs.Sink.{AppendsPart}
-use Rattle.pool_io.specs.Views.{Change, IsUntouched, SinkView, SourceView}
+use Rattle.pool_io.specs.Views.{Change, IsUntouched, SourceView}
 use Rattle.report_audit.specs.lines.Head.{BeginsWithHead}
 use Rattle.report_audit.specs.lines.HeadFault.{HeadFails}
 use Rattle.report_audit.specs.declared.lines.head_fault.HeadFault.{HeadFault}
@@ -26,7 +25,7 @@ use Rattle.report_audit.specs.declared.report.fault.AuditFault.TheVariants as au
 use Rattle.report_past.specs.Past.{IsPast, MayBeLeft}
 use Rattle.report_past.specs.Told.{PastIsGood}
 use Rattle.request_book.specs.Book.{BookView, opening}
-use Rattle.request_book.specs.notices.Told.{HaveHeard, NotifierView}
+use Rattle.request_book.specs.notices.Told.{HaveHeard}
 use Rattle.request_book.specs.values.Batch.{Batch}
 use Rattle.request_book.specs.declared.notices.notice.Notice.{Notice}
 use Rattle.request_book.specs.declared.values.journal.Journal.{Journal}

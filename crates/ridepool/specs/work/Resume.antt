@@ -11,7 +11,6 @@ use Rattle.live_dispatch.specs.declared.fault.LiveFault.TheVariants as live
 use Rattle.pool_base.specs.declared.which.Which.TheVariants as file
 use Rattle.pool_io.specs.Faults.{Rose}
 use Rattle.pool_io.specs.Views.{Change, IsUntouched, SourceView}
-use Rattle.report_audit.specs.declared.report.fault.AuditFault.{AuditFault}
 use Rattle.report_audit.specs.declared.report.fault.AuditFault.TheVariants as audit
 use Rattle.report_past.specs.Past.{MayBeLeft}
 use Rattle.report_past.specs.declared.past.Past.{Past}

@@ -12,7 +12,8 @@ close_open-caught-requires-clause-nodes g c κs within = c.requires.ready.named 
 
 pub returns-in-Some-clause-caught : goal.returns-in-Some-clause-caught
 returns-in-Some-clause-caught g c =
-    caught-up _ _ c.args.book c.args.waits c.in-Some.snapshot _ _ c.requires.ready c.in-Some.is c.close_open-caught.result.book c.close_open-caught.ensures.closed
+    caught-up _ _ c.args.book c.args.waits c.in-Some.snapshot _ _ c.requires.ready c.in-Some.is c.close_open-caught.result.book
+    c.close_open-caught.ensures.closed
 
 pub returns-in-None-clause-caught : goal.returns-in-None-clause-caught
 returns-in-None-clause-caught g c = none-waits _ _ c.args.book c.args.waits _ c.requires.ready c.in-None.is

@@ -20,9 +20,12 @@ returns-in-Ok g c d is past =
     let old = c.args.session.outputs in
     let mid = c.copy_past.new.outputs in
     let new = c.run_behind-dispatched.result.outputs in
-    let before : OutputsView = outputs_seen g.K.Sink.written g.K.Sink.faults g.N.Notifier.told g.N.Notifier.faults g.N.Notifier.steady old.sink old.notifiers.items in
-    let copied : OutputsView = outputs_seen g.K.Sink.written g.K.Sink.faults g.N.Notifier.told g.N.Notifier.faults g.N.Notifier.steady mid.sink mid.notifiers.items in
-    let after : OutputsView = outputs_seen g.K.Sink.written g.K.Sink.faults g.N.Notifier.told g.N.Notifier.faults g.N.Notifier.steady new.sink new.notifiers.items in
+    let before : OutputsView = outputs_seen g.K.Sink.written g.K.Sink.faults g.N.Notifier.told g.N.Notifier.faults g.N.Notifier.steady old.sink
+    old.notifiers.items in
+    let copied : OutputsView = outputs_seen g.K.Sink.written g.K.Sink.faults g.N.Notifier.told g.N.Notifier.faults g.N.Notifier.steady mid.sink
+    mid.notifiers.items in
+    let after : OutputsView = outputs_seen g.K.Sink.written g.K.Sink.faults g.N.Notifier.told g.N.Notifier.faults g.N.Notifier.steady new.sink
+    new.notifiers.items in
     rw (kept.0, kept.1, kept.2, kept.3)
     (resume-ended d _ is (kept_of c.args.past) past c.requires.ready.proof (g.S.Source.left c.args.session.script) c.copy_past.new.lines.to_come
     c.behind_round-rows.result.lines.to_come c.in-Ok.version c.behind_round-rows.result.version c.behind_round-rows.result.least before copied after
