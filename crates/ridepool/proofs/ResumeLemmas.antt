@@ -78,6 +78,7 @@ use Rattle.report_past.specs.Told.{AreScriptRows}
 use Rattle.request_book.specs.Consistent.{IsNode}
 use Rattle.request_book.specs.Points.{named_nodes}
 use Rattle.request_book.specs.values.Batch.{Batch}
+use Rattle.request_book.specs.declared.notices.notice.Notice.{Notice}
 use Rattle.request_book.specs.declared.values.journal.Journal.{Journal}
 use Rattle.ridepool.proofs.ResumedRunLemmas.{rounds-joined, whole}
 use Rattle.ridepool.specs.Resume.{
@@ -237,13 +238,14 @@ module _ (d : Day) (i : LiveInputs) (is : d.inputs ≡ i) (seen : LiveSeen) (kep
     kept-unstored = EndsResume.unstored (inr kept-part)
 
 -- head and kept part were written, and the notices told
-pub copied-of : (d : Day) (i : LiveInputs) → d.inputs ≡ i → (kept : Kept) (before after : OutputsView) (between : SinkView) →
+pub copied-of : (d : Day) (i : LiveInputs) → d.inputs ≡ i → (kept : Kept) (before after : OutputsView) (between : SinkView) (notices : List Notice) →
     Appends before.sink.written between.written (live_head i)
-    → Appends between.written after.sink.written kept.text → HaveHeard kept.notices before.notifiers after.notifiers → Copies d kept before after
-copied-of d i is kept before after between front rest told = record {
+    → Appends between.written after.sink.written kept.text → notices ≡ kept.notices → HaveHeard notices before.notifiers after.notifiers →
+    Copies d kept before after
+copied-of d i is kept before after between notices front rest same heard = record {
   text = subst (λ (j : LiveInputs). Appends before.sink.written after.sink.written (live_head j ++ kept.text)) (sym is)
       (Appends-trans before.sink.written between.written after.sink.written (live_head i) kept.text front rest);
-  told = told;
+  told = subst (λ (ns : List Notice). HaveHeard ns before.notifiers after.notifiers) same heard;
 }
 
 -- the rows to come are those of later rounds

@@ -23,7 +23,8 @@ returns-in-Ok-write_all-clause-copied g c = (
       c.args.outputs.now.sink c.args.outputs.now.notifiers.items in
       let after : OutputsView = outputs_seen g.K.Sink.written g.K.Sink.faults g.N.Notifier.told g.N.Notifier.faults g.N.Notifier.steady
       c.write_all.new.sink c.tell_all.new.notifiers.items in
-      copied-of d _ is (kept_of c.args.past.now) before after between c.in_default.ensures.bytes c.in-Ok-write_all.ensures.whole c.tell_all.ensures.heard),
+      copied-of d _ is (kept_of c.args.past.now) before after between c.deref.result.now c.in_default.ensures.bytes
+      c.in-Ok-write_all.ensures.whole c.deref.ensures.value c.tell_all.ensures.heard),
 )
 
 pub returns-in-Err-WriteFault-clause-stopped : goal.returns-in-Err-WriteFault-clause-stopped
