@@ -1,9 +1,9 @@
-mod CloseLemmas
+pub mod CloseLemmas
 mod CutLemmas
 mod FinishLemmas
 mod ItemLemmas
-mod LaterLemmas
-mod LawLemmas
+pub mod LaterLemmas
+pub mod LawLemmas
 mod RoundLemmas
-mod StepLemmas
+pub mod StepLemmas
 mod TakeLemmas

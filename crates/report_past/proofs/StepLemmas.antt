@@ -90,7 +90,7 @@ pub closed_reply : (nodes : List ℕ) (wait : ℕ) (s : State) (b : Batch) (outc
 unfolding step close
 closed_reply nodes wait s b outcome is = grind (arith, nat_tests)
 
-closed_state : (nodes : List ℕ) (wait : ℕ) (s : State) (b : Batch) (outcome : Outcome) → s.sealed ≡ Some b →
+pub closed_state : (nodes : List ℕ) (wait : ℕ) (s : State) (b : Batch) (outcome : Outcome) → s.sealed ≡ Some b →
     (step nodes wait s (Close b.number outcome)).0.sealed ≡ None
 unfolding step close
 closed_state nodes wait s b outcome is = grind (arith, nat_tests)

@@ -27,6 +27,7 @@ use Rattle.ridepool.proofs.Common.{
   ExplainsLive,
   HasHead,
   IsFaultlessLive,
+  IsFleetIn,
   IsLiveStop,
   IsSilentCall,
   IsUnbegun,
@@ -40,6 +41,7 @@ use Rattle.ridepool.proofs.Common.{
   vehicles_in,
   IsUntouched,
   SourceView,
+  Tells,
   RunStatus,
   Done,
   Words,
@@ -171,22 +173,27 @@ module _ (call : LiveCall) (silent : IsUnbegun call) where
   fleet-stops settings roads _ good network (StopsAt.refused fault reads hides) = ExplainsLive.stopped _
       (good.faultless, IsLiveStop.fleet_refused fault (roads, network, reads), silent)
 
--- where nothing is wrong, a call is done or out of memory
-no-stop : (call : LiveCall) (status : RunStatus) → IsFaultlessLive call → IsLiveStop call.network call.fleet status → ⊥
-no-stop call _ f (IsLiveStop.network_refused fault why fleet) =
-    ok_is_no_err (network_in f.network_text) f.inputs.roads fault f.roads (read_of call.network f.network_text (λ b. network_in b ≡ Err fault) f.network why)
-no-stop call _ f (IsLiveStop.network_long why fleet) = not_long file.Network call.network f.network_text f.network why
-no-stop call _ f (IsLiveStop.network_unread within rose fleet) = f.network.faultless rose
-no-stop call _ f (IsLiveStop.fleet_refused fault why) =
-    let same : why.0 ≡ f.inputs.roads = same_value (network_in f.network_text) why.0 f.inputs.roads
-    (read_of call.network f.network_text (λ b. network_in b ≡ Ok why.0) f.network why.1) f.roads in
-    let refused = read_of call.fleet f.fleet_text (λ b. vehicles_in why.0.nodes b ≡ Err fault) f.fleet why.2 in
-    let P : Roads → Type 0 = λ r. vehicles_in r.nodes f.fleet_text ≡ Err fault in
-    ok_is_no_err (vehicles_in f.inputs.roads.nodes f.fleet_text) f.vehicles.vehicles fault f.vehicles.read (subst P same refused)
-no-stop call _ f (IsLiveStop.fleet_long why) = not_long file.Fleet call.fleet f.fleet_text f.fleet why.2
-no-stop call _ f (IsLiveStop.fleet_unread why) = f.fleet.faultless why.2.1
+-- where network and fleet tell what gives inputs, neither stops a call
+module _ (network fleet : Change SourceView) (i : LiveInputs) (network_text fleet_text : List ℕ) (tells : Tells file.Network network network_text)
+    (roads : network_in network_text ≡ Ok i.roads) (tells_fleet : Tells file.Fleet fleet fleet_text) (vehicles : IsFleetIn i.roads.nodes fleet_text i.vehicles)
+  where
+    pub no-stop : (status : RunStatus) → IsLiveStop network fleet status → ⊥
+    no-stop _ (IsLiveStop.network_refused fault why untouched) =
+        ok_is_no_err (network_in network_text) i.roads fault roads (read_of network network_text (λ b. network_in b ≡ Err fault) tells why)
+    no-stop _ (IsLiveStop.network_long why untouched) = not_long file.Network network network_text tells why
+    no-stop _ (IsLiveStop.network_unread within rose untouched) = tells.faultless rose
+    no-stop _ (IsLiveStop.fleet_refused fault why) =
+        let same : why.0 ≡ i.roads = same_value (network_in network_text) why.0 i.roads
+        (read_of network network_text (λ b. network_in b ≡ Ok why.0) tells why.1) roads in
+        let refused = read_of fleet fleet_text (λ b. vehicles_in why.0.nodes b ≡ Err fault) tells_fleet why.2 in
+        let P : Roads → Type 0 = λ r. vehicles_in r.nodes fleet_text ≡ Err fault in
+        ok_is_no_err (vehicles_in i.roads.nodes fleet_text) vehicles.vehicles fault vehicles.read (subst P same refused)
+    no-stop _ (IsLiveStop.fleet_long why) = not_long file.Fleet fleet fleet_text tells_fleet why.2
+    no-stop _ (IsLiveStop.fleet_unread why) = tells_fleet.faultless why.2.1
 
-has-header : (script : Option (List ℕ)) (text : List ℕ) (rows : List ScriptRow) (why : HeaderFault) → script ≡ Some text → live_rows (lines_in text) ≡ Ok rows →
+-- where nothing is wrong, a call is done or out of memory
+pub has-header : (script : Option (List ℕ)) (text : List ℕ) (rows : List ScriptRow) (why : HeaderFault) → script ≡ Some text →
+    live_rows (lines_in text) ≡ Ok rows →
     HasNoHeader script why → ⊥
 has-header script text rows why told header other =
     let P : Option (List ℕ) → Type 0 = λ s. HasNoHeader s why in ok_is_no_err (live_rows (lines_in text)) rows why header (subst P told other)
@@ -206,7 +213,8 @@ complete-live : (call : LiveCall) (status : RunStatus) → IsFaultlessLive call 
 complete-live call _ f writes (ExplainsLive.refused fault why network fleet silent) = absurd
     (none_is_no_some (fault_of (words_of_run call.words)) fault f.words.faultless why)
 complete-live call _ f writes (ExplainsLive.unstored silent) = inr refl
-complete-live call _ f writes (ExplainsLive.stopped status stop) = absurd (no-stop call status f stop.1)
+complete-live call _ f writes (ExplainsLive.stopped status stop) =
+    absurd (no-stop call.network call.fleet f.inputs f.network_text f.fleet_text f.network f.roads f.fleet f.vehicles status stop.1)
 complete-live call _ f writes (ExplainsLive.ended status ends) = no-end call ends.0 status f writes ends.2
 
 pub answers-live : (call : LiveCall) (status : RunStatus) → ExplainsLive call status → AreLimited call.network call.fleet status → HidesNoMemory status →

@@ -6,7 +6,6 @@ use Rattle.dispatch_report.specs.Round.{end_text}
 use Rattle.input_rows.specs.live.Lines.{lines_in}
 use Rattle.input_rows.specs.live.Rows.{least_behind}
 use Rattle.input_rows.specs.live.Start.{HasNoHeader, live_rows, rows_from}
-use Rattle.input_rows.specs.declared.fleet.fault.FleetFault.{FleetFault}
 use Rattle.input_rows.specs.declared.live.start.HeaderFault.{HeaderFault}
 use Rattle.input_rows.specs.declared.script.script_row.ScriptRow.{ScriptRow}
 use Rattle.live_dispatch.specs.Closing.{IsClosedTo, StopsClose}
@@ -16,17 +15,17 @@ use Rattle.live_dispatch.specs.declared.fault.LiveFault.{LiveFault}
 use Rattle.pool_base.specs.declared.which.Which.TheVariants as file
 use Rattle.pool_io.specs.Faults.{Rose}
 use Rattle.pool_io.specs.Sink.{AppendsPart}
-use Rattle.pool_io.specs.Views.{Change, IsUntouched, SinkView, SourceView}
+use Rattle.pool_io.specs.Views.{Change, IsUntouched, SourceView}
 use Rattle.report_audit.specs.lines.Head.{BeginsWithHead}
 use Rattle.report_audit.specs.lines.HeadFault.{HeadFails}
 use Rattle.report_audit.specs.declared.lines.head_fault.HeadFault.{HeadFault}
-use Rattle.report_audit.specs.declared.lines.head_fault.HeadFault.TheVariants as head
+use Rattle.report_audit.specs.declared.lines.head_fault.HeadFault.TheVariants as of_head
 use Rattle.report_audit.specs.declared.report.fault.AuditFault.{AuditFault}
 use Rattle.report_audit.specs.declared.report.fault.AuditFault.TheVariants as audit
-use Rattle.report_past.specs.Past.{IsPast, MayBeLeft}
+use Rattle.report_past.specs.Past.{IsPast}
 use Rattle.report_past.specs.Told.{PastIsGood}
 use Rattle.request_book.specs.Book.{BookView, opening}
-use Rattle.request_book.specs.notices.Told.{HaveHeard, NotifierView}
+use Rattle.request_book.specs.notices.Told.{HaveHeard}
 use Rattle.request_book.specs.values.Batch.{Batch}
 use Rattle.request_book.specs.declared.notices.notice.Notice.{Notice}
 use Rattle.request_book.specs.declared.values.journal.Journal.{Journal}
@@ -170,15 +169,15 @@ pub data EndsResume (d : Day) (seen : LiveSeen) : RunStatus → Type 0 where
 
 -- the fault of a head, as that of a report
 abbrev pub fault_of_head : HeadFault → AuditFault
-fault_of_head (head.Cut line) = audit.Cut line
-fault_of_head (head.Form line) = audit.Form line
-fault_of_head (head.Head line) = audit.Head line
+fault_of_head (of_head.Cut line) = audit.Cut line
+fault_of_head (of_head.Form line) = audit.Form line
+fault_of_head (of_head.Head line) = audit.Head line
 
--- why a report is no past of a day: its head fails, or no run of rows leaves what follows
+-- why a report is no past of a day: its head fails, or what follows can't be read as one
 pub data IsNoPast (said : ResumeWords) (roads : Roads) (vehicles : List Vehicle) (bytes : List ℕ) : AuditFault → Type 0 where
   head : (fault : HeadFault) → HeadFails roads (length vehicles) bytes fault → IsNoPast said roads vehicles bytes (fault_of_head fault)
   past : (fault : AuditFault) (d : Day) → HasDay said d bytes → d.inputs.roads ≡ roads → d.inputs.vehicles ≡ vehicles
-      → (MayBeLeft d.inputs.settings roads vehicles d.text → ⊥) → IsNoPast said roads vehicles bytes fault
+      → IsNoPast said roads vehicles bytes fault
 
 -- why network, fleet or report stopped a call; those behind it are untouched
 pub data IsResumeStop (said : ResumeWords) (call : ResumeCall) : RunStatus → Type 0 where
@@ -198,8 +197,8 @@ pub data ExplainsResume (call : ResumeCall) : RunStatus → Type 0 where
   stopped : (said : ResumeWords) (status : RunStatus) → SayResume call.live.words said → IsResumeStop said call status → IsUnbegun call.live → ExplainsResume call status
   ended : (d : Day) (status : RunStatus) → ReadsDay call d → EndsResume d call.live.rest status → ExplainsResume call status
 
--- the words are good, network, fleet and report tell texts that give a day which a run of rows may leave, the script tells its
--- bytes and has a header, and no read fails
+-- the words are good, network, fleet and report tell texts that give a day, the script tells its bytes and has a header, and no
+-- read fails
 pub record IsFaultlessResume (call : ResumeCall) : Type 0 where
   pub said : ResumeWords
   pub words : SayResume call.live.words said
@@ -213,20 +212,24 @@ pub record IsFaultlessResume (call : ResumeCall) : Type 0 where
   pub report_text : List ℕ
   pub report : Tells file.Report call.report report_text
   pub has_day : HasDay said day report_text
-  pub left : MayBeLeft day.inputs.settings day.inputs.roads day.inputs.vehicles day.text
   pub text : List ℕ
   pub told : call.live.rest.script ≡ Some text
   pub rows : List ScriptRow
   pub header : live_rows (lines_in text) ≡ Ok rows
   pub faultless : Rose call.live.rest.reads.before call.live.rest.reads.after → ⊥
 
+-- the report is refused
+abbrev pub IsReportRefused : RunStatus → Type 0
+IsReportRefused status = (fault : AuditFault) × (status ≡ Report fault)
+
 -- what a call's answer says
 pub record AnswersResume (call : ResumeCall) (status : RunStatus) : Type 0 where
   -- its cause, and what is written
   pub explained : ExplainsResume call status
-  -- where nothing is wrong with words, network, fleet, report and header, and no write fails, all is done or there is no
-  -- memory, whatever the rows, and wherever the report breaks off
-  pub complete : IsFaultlessResume call → (Rose call.live.rest.out.before.faults call.live.rest.out.after.faults → ⊥) → (status ≡ Done) ⊎ (status ≡ OutOfMemory)
+  -- where nothing is wrong with words, network, fleet, the report's head and header, and no write fails, all is done or there is no
+  -- memory, whatever the rows, or what the report keeps is refused
+  pub complete : IsFaultlessResume call → (Rose call.live.rest.out.before.faults call.live.rest.out.after.faults → ⊥)
+      → (status ≡ Done) ⊎ (status ≡ OutOfMemory) ⊎ IsReportRefused status
   -- no more bytes than may be were taken from network, fleet and report
   pub limited : AreLimited call.live.network call.live.fleet status
   pub limited_report : IsWithin file.Report call.report ⊎ (status ≡ TooLong file.Report)

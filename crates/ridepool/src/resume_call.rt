@@ -12,7 +12,7 @@ ghost use Rattle.ridepool.specs.Live.{AreLimited, IsUnbegun, LiveSeen};
 ghost use Rattle.ridepool.specs.Resume.{AnswersResume, CatchesUp, Copies, Day as OneDay, EndsResume, ExplainsResume, IsPastOf, ResumeCall, fault_of_head};
 ghost use Rattle.ridepool.specs.Status.{HidesNoMemory};
 ghost use Rattle.ridepool.specs.work.Live.{live_seen};
-ghost use Rattle.ridepool.specs.work.Resume.{EndsDay, GotDay, IsBehindClose, IsReportLimited, IsRestartable, RunsBehindIt, StopsCatching, TellsDay, TellsNoDay, day_of, kept_of, with_times};
+ghost use Rattle.ridepool.specs.work.Resume.{EndsDay, GoesOn, GotDay, IsBehindClose, IsReportLimited, IsRestartable, RunsBehindIt, StopsCatching, TellsDay, TellsNoDay, day_of, kept_of, with_times};
 
 use crate::live_call::{LiveEnd, Session, end_status, ended, start_status};
 use crate::reading::{fleet_from, network_from, read_input};
@@ -66,8 +66,8 @@ struct Day<'a> {
 ///
 /// `Done` says that head and kept part, the close of the open batch and the report of a run of the accepted rows are written,
 /// one behind the other. If what the kept blocks tell is good for their batches, that is the report of a run of the kept rows
-/// and then of the accepted ones. With `judge=1` this is asked of each block. `Report` comes only where the head fails or no
-/// run of rows may leave such a report. The other answers are those of `live`.
+/// and then of the accepted ones. With `judge=1` this is asked of each block. `Report` comes where the head fails, or where
+/// what the report keeps can't be read. The other answers are those of `live`.
 pub fn resume<
     R: Source,
     F: Source,
@@ -302,11 +302,11 @@ fn go_on<
     session: Session<S, K, N, L>,
     gate: &G,
 ) -> LiveEnd<S, K, N>
-    requires named { All (λ vehicle. IsNode inputs.now.network.nodes vehicle.node) inputs.now.fleet }
+    requires ready { GoesOn day.settings inputs.now.network (kept_of day.past) }
     ensures { let seen = live_seen (S.left session.script) (S.faults session.script) (S.faults result.script) (sink_seen K.written K.faults session.outputs.sink result.out)
         (notifiers_seen N.told N.faults N.steady session.outputs.notifiers.items) (notifiers_seen N.told N.faults N.steady result.notifiers.items) in
-        (text : List ℕ) → let d = day_of day.settings inputs.now.network inputs.now.fleet text inputs.now.said in
-        IsPastOf d (kept_of day.past) → EndsResume d seen result.status }
+        (text : List ℕ) → let d = day_of day.entry.settings inputs.now.network inputs.now.fleet text inputs.now.said in
+        IsPastOf d (kept_of day.entry.past) → EndsResume d seen result.status }
 {
     let Day {
         settings,
@@ -364,10 +364,10 @@ fn restart<
     session: Session<S, K, N, L>,
     solver: &BatchSolver<'_, W, D, G>,
 ) -> LiveEnd<S, K, N>
-    requires named { All (λ vehicle. IsNode solver.now.network.now.nodes vehicle.node) place.fleet.now }
+    requires ready { GoesOn solver.now.settings.now solver.now.network.now (kept_of past) }
     ensures { let seen = live_seen (S.left session.script) (S.faults session.script) (S.faults result.script) (sink_seen K.written K.faults session.outputs.sink result.out)
         (notifiers_seen N.told N.faults N.steady session.outputs.notifiers.items) (notifiers_seen N.told N.faults N.steady result.notifiers.items) in
-        (d : OneDay) → d.inputs ≡ record { settings = solver.now.settings.now; roads = solver.now.network.now; vehicles = place.fleet.now } → IsPastOf d (kept_of past) → EndsResume d seen result.status }
+        (d : OneDay) → d.inputs ≡ record { settings = solver.now.settings.now; roads = solver.now.network.now; vehicles = place.entry.fleet.now } → IsPastOf d (kept_of past.entry) → EndsResume d seen result.status }
 {
     let Session {
         script,
@@ -472,7 +472,7 @@ fn run_behind<
 ) -> Dispatched<K, N, L>
     requires ready { IsRestartable solver.now.settings.now solver.now.network.now past.book past.open }
     requires first { L.last rows ≡ 0 }
-    ensures { RunsBehindIt solver.now.settings.now solver.now.network.now past.book past.open
+    ensures { RunsBehindIt solver.now.settings.now solver.now.network.now past.entry.book past.entry.open
         (outputs_seen K.written K.faults N.told N.faults N.steady outputs.sink outputs.notifiers.items)
         (outputs_seen K.written K.faults N.told N.faults N.steady result.outputs.sink result.outputs.notifiers.items)
         (L.to_come rows) (L.faults rows) (L.faults result.rows) result.ended }
@@ -504,7 +504,7 @@ fn catch_up<K: Sink, N: Notifier, W: Ways, D: Drafter, G: Gate>(
     outputs: Outputs<K, N>,
     solver: &BatchSolver<'_, W, D, G>,
 ) -> Caught<K, N>
-    requires { IsRestartable solver.now.settings.now solver.now.network.now book waits }
+    requires ready { IsRestartable solver.now.settings.now solver.now.network.now book waits }
     ensures caught { let before = outputs_seen K.written K.faults N.told N.faults N.steady outputs.sink outputs.notifiers.items in
         let after = outputs_seen K.written K.faults N.told N.faults N.steady result.outputs.sink result.outputs.notifiers.items in
         MatchResult result.book

@@ -1,5 +1,5 @@
 -- The steps of a call of `resume`.
-use Rattle.std.specs.Prelude.{◌≡◌, ◌≢◌, ℕ, ◌≤◌, ◌<◌, ◌^◌, List, [], Option, Some, Result, MatchResult, All, Contains, ◌⊎◌}
+use Rattle.std.specs.Prelude.{◌≡◌, ◌≢◌, ℕ, ◌≤◌, ◌<◌, ◌^◌, true, List, [], Option, Some, Result, IfSome, MatchResult, All, Contains, ◌⊎◌}
 use Rattle.std.specs.Result.{IsErrOf}
 use Rattle.dispatch_engine.specs.lanes.Run.{IsReady}
 use Rattle.input_rows.specs.declared.script.script_row.ScriptRow.{ScriptRow}
@@ -11,7 +11,6 @@ use Rattle.live_dispatch.specs.declared.fault.LiveFault.TheVariants as live
 use Rattle.pool_base.specs.declared.which.Which.TheVariants as file
 use Rattle.pool_io.specs.Faults.{Rose}
 use Rattle.pool_io.specs.Views.{Change, IsUntouched, SourceView}
-use Rattle.report_audit.specs.declared.report.fault.AuditFault.{AuditFault}
 use Rattle.report_audit.specs.declared.report.fault.AuditFault.TheVariants as audit
 use Rattle.report_past.specs.declared.past.Past.{Past}
 use Rattle.request_book.specs.Book.{BookView}
@@ -79,6 +78,12 @@ pub record IsRestartable (settings : Settings) (roads : Roads) (b : BookView) (w
   pub low : b.first < 2 ^ 64
   pub sealed : b.state.sealed ≡ waits
   pub named : (batch : Batch) → waits ≡ Some batch → All (λ node. Contains roads.nodes node) (named_nodes batch)
+
+-- a day goes on behind what is kept of it: rows of later rounds may come, and trees are printed as before
+pub record GoesOn (settings : Settings) (roads : Roads) (k : Kept) : Type 0 where
+  pub ready : IsRestartable settings roads k.book k.open_batch
+  pub round : IfSome k.last (λ last. last ≤ 1000000000)
+  pub proof : settings.proof ≡ true
 
 -- the book is ready for a row
 pub record IsBehindClose (settings : Settings) (roads : Roads) (b : BookView) : Type 0 where
