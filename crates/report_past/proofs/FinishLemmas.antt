@@ -12,9 +12,9 @@ use Rattle.input_rows.specs.declared.script.script_row.ScriptRow.{ScriptRow}
 use Rattle.input_rows.specs.script.Script.{round_of}
 use Rattle.live_dispatch.proofs.lemmas.EntryLemmas.{next-low}
 use Rattle.live_dispatch.specs.Live.{journals_text, rows_rounds}
-use Rattle.report_past.proofs.LawLemmas.{texts-append, told-more}
+use Rattle.report_past.proofs.lemmas.LawLemmas.{texts-append, told-more}
 use Rattle.report_past.proofs.RoundLemmas.{lane_commands, last_of_rounds, own_most, round_of_last}
-use Rattle.report_past.proofs.StepLemmas.{closed_reply, lanes_close, lanes_closed, none_owed, replies_push}
+use Rattle.report_past.proofs.lemmas.StepLemmas.{closed_reply, lanes_close, lanes_closed, none_owed, replies_push}
 unfoldable use Rattle.report_past.specs.Past.{last_notices}
 use Rattle.report_past.specs.Past.{last_round, notices_of_last}
 use Rattle.report_past.specs.Told.{AreScriptRows, IsToldRound, IsToldRun, PastIsGood, close_of, closed_with, with_last}

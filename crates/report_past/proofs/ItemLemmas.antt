@@ -8,10 +8,10 @@ unfoldable use Rattle.dispatch_report.specs.Round.{round_text, entries_lines}
 use Rattle.dispatch_report.specs.Round.{entry_text, round_line}
 use Rattle.input_rows.specs.declared.script.script_row.ScriptRow.{ScriptRow}
 use Rattle.input_rows.specs.script.ScriptRow.{IsBehind}
-use Rattle.report_past.proofs.CloseLemmas.{round_last}
+use Rattle.report_past.proofs.lemmas.CloseLemmas.{round_last}
 use Rattle.report_past.proofs.FinishLemmas.{Begins, begins}
 use Rattle.report_past.proofs.RoundLemmas.{own_most}
-use Rattle.report_past.proofs.StepLemmas.{push_close, push_row}
+use Rattle.report_past.proofs.lemmas.StepLemmas.{push_close, push_row}
 use Rattle.report_past.specs.Told.{close_of}
 use Rattle.report_past.specs.work.Reading.{IsInRound, IsReading, Stand, StandsIn, stand, start_text}
 use Rattle.request_book.specs.Book.{BookView, IsApplied, next_position}

@@ -1,9 +1,6 @@
-pub mod CloseLemmas
+pub mod lemmas
 mod CutLemmas
 mod FinishLemmas
 mod ItemLemmas
-pub mod LaterLemmas
-pub mod LawLemmas
 mod RoundLemmas
-pub mod StepLemmas
 mod TakeLemmas

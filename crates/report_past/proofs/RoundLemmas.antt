@@ -40,7 +40,7 @@ use Rattle.input_rows.specs.script.Round.{lane_at}
 use Rattle.input_rows.specs.script.Script.{round_of}
 use Rattle.input_rows.specs.script.ScriptRow.{IsBehind}
 use Rattle.live_dispatch.specs.Live.{rows_rounds}
-use Rattle.report_past.proofs.LaterLemmas.{further_rounds, top}
+use Rattle.report_past.proofs.lemmas.LaterLemmas.{further_rounds, top}
 use Rattle.report_past.specs.Past.{last_round}
 use Rattle.report_past.specs.Told.{AreScriptRows}
 use Rattle.report_past.specs.work.Reading.{AreOf, commands_in}

@@ -63,7 +63,7 @@ use Rattle.report_audit.specs.block.Block.{BeginsWithGood}
 use Rattle.report_past.proofs.CutLemmas.{first_line, one_text}
 use Rattle.report_past.proofs.FinishLemmas.{IsTold, finishes}
 use Rattle.report_past.proofs.ItemLemmas.{reads_close, reads_row}
-use Rattle.report_past.proofs.StepLemmas.{no_close}
+use Rattle.report_past.proofs.lemmas.StepLemmas.{no_close}
 use Rattle.report_past.specs.Past.{IsPast, dropped_text}
 use Rattle.report_past.specs.Told.{AreScriptRows, close_of}
 use Rattle.report_past.specs.Whole.{IsWholeText}

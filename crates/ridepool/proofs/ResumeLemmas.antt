@@ -72,7 +72,7 @@ use Rattle.live_dispatch.specs.Desk.{OutputsView}
 use Rattle.live_dispatch.specs.Live.{BeginsRows, RunsRows}
 use Rattle.live_dispatch.specs.declared.fault.LiveFault.{LiveFault}
 use Rattle.live_dispatch.specs.declared.fault.LiveFault.TheVariants as live
-use Rattle.report_past.proofs.StepLemmas.{closed_state}
+use Rattle.report_past.proofs.lemmas.StepLemmas.{closed_state}
 use Rattle.report_past.specs.Past.{StandsBehind, last_round}
 use Rattle.report_past.specs.Told.{AreScriptRows}
 use Rattle.request_book.specs.Consistent.{IsNode}

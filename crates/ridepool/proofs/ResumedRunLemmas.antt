@@ -17,10 +17,10 @@ use Rattle.live_dispatch.proofs.lemmas.EntryLemmas.{one-text}
 use Rattle.live_dispatch.specs.Closing.{book_behind, closing_entry}
 use Rattle.live_dispatch.specs.Desk.{OutputsView, text_of}
 use Rattle.live_dispatch.specs.Live.{journals_text, rows_rounds, rows_text}
-use Rattle.report_past.proofs.CloseLemmas.{Has, good_last, has_some, position_last, state_last, text_last}
-use Rattle.report_past.proofs.LaterLemmas.{later_rounds}
-use Rattle.report_past.proofs.LawLemmas.{goes_on, position-append, texts-append}
-use Rattle.report_past.proofs.StepLemmas.{closed_reply}
+use Rattle.report_past.proofs.lemmas.CloseLemmas.{Has, good_last, has_some, position_last, state_last, text_last}
+use Rattle.report_past.proofs.lemmas.LaterLemmas.{later_rounds}
+use Rattle.report_past.proofs.lemmas.LawLemmas.{goes_on, position-append, texts-append}
+use Rattle.report_past.proofs.lemmas.StepLemmas.{closed_reply}
 use Rattle.report_past.specs.Past.{StandsBehind, last_round}
 use Rattle.report_past.specs.Told.{AreScriptRows, IsLater, IsToldRun, PastIsGood, close_of, closed_with, with_last}
 use Rattle.request_book.specs.Book.{next_position}

@@ -1,6 +1,6 @@
 use Rattle.std.proofs.Common.{refl, ◌∙◌, arith}
 use Rattle.live_dispatch.specs.Live.{rows_rounds}
-use Rattle.report_past.proofs.CloseLemmas.{good_last, has_some, position_last, state_last, text_last}
+use Rattle.report_past.proofs.lemmas.CloseLemmas.{good_last, has_some, position_last, state_last, text_last}
 use Rattle.report_past.specs.Told.{close_of}
 use Rattle.request_book.specs.Book.{opening}
 use Rattle.report_past.proofs.laws.a_close_ends_its_past.Goals as goal

@@ -2,8 +2,8 @@ use Rattle.std.proofs.Common.{◌++◌, sym, ap, subst, ◌∙◌, append_assoc}
 use Rattle.dispatch_engine.specs.lanes.Run.{IsRun, position_after_run}
 use Rattle.dispatch_report.specs.Round.{end_text}
 use Rattle.live_dispatch.specs.Live.{journals_text, rows_rounds}
-use Rattle.report_past.proofs.LawLemmas.{goes_on, position-append, texts-append}
-use Rattle.report_past.proofs.LaterLemmas.{later_rounds}
+use Rattle.report_past.proofs.lemmas.LawLemmas.{goes_on, position-append, texts-append}
+use Rattle.report_past.proofs.lemmas.LaterLemmas.{later_rounds}
 use Rattle.report_past.proofs.laws.a_day_goes_on.Goals as goal
 
 pub returns-clause-run : goal.returns-clause-run

@@ -47,7 +47,7 @@ use Rattle.input_rows.specs.script.Round.{MayStand}
 use Rattle.input_rows.specs.script.ScriptRow.{IsBehind}
 use Rattle.live_dispatch.proofs.lemmas.EntryLemmas.{next-append, state-append}
 use Rattle.report_audit.specs.report.Report.{closes}
-use Rattle.report_past.proofs.CloseLemmas.{closes_push}
+use Rattle.report_past.proofs.lemmas.CloseLemmas.{closes_push}
 use Rattle.report_past.proofs.RoundLemmas.{own_push, rows_push}
 unfoldable use Rattle.report_past.specs.Past.{last_notices}
 use Rattle.report_past.specs.Told.{AreScriptRows, close_of}

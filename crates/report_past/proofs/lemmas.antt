@@ -1,0 +1,4 @@
+pub mod CloseLemmas
+pub mod LaterLemmas
+pub mod LawLemmas
+pub mod StepLemmas
