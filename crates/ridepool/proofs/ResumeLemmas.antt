@@ -3,12 +3,14 @@ use Rattle.std.proofs.Common.{
   ◌≡◌,
   ℕ,
   ◌+◌,
+  ◌<◌,
   ◌≤◌,
   true,
   List,
   [],
   ◌∷◌,
   ◌++◌,
+  length,
   take,
   get_or,
   Contains,
@@ -66,7 +68,8 @@ use Rattle.input_rows.specs.declared.script.script_row.ScriptRow.{ScriptRow}
 use Rattle.input_rows.specs.declared.script.version.ScriptVersion.{ScriptVersion}
 use Rattle.input_rows.specs.live.Rows.{least_behind, rows_to_come}
 use Rattle.input_rows.specs.live.Start.{HasNoHeader, HasStarted}
-use Rattle.live_dispatch.proofs.StandLemmas.{part-behind}
+use Rattle.std.proofs.Math.Seq.{take-append-add}
+use Rattle.std.proofs.lemmas.Bool.Decides.{nat_tests}
 use Rattle.live_dispatch.specs.Closing.{IsClosedTo, StopsClose}
 use Rattle.live_dispatch.specs.Desk.{OutputsView}
 use Rattle.live_dispatch.specs.Live.{BeginsRows, RunsRows}
@@ -97,6 +100,11 @@ use Rattle.ridepool.specs.Resume.{
 }
 use Rattle.ridepool.specs.work.Live.{live_seen, status_of_end, status_of_start}
 use Rattle.ridepool.specs.work.Resume.{CaughtUp, GoesOn, IsBehindClose, IsRestartable, RunsBehindIt, StopsCatching}
+
+-- bytes and a part of a text are a part of both
+part-behind : (old new : Option (List ℕ)) (front text : List ℕ) (k : ℕ) → k < length text → Appends old new (front ++ take k text) →
+    AppendsPart old new (front ++ text)
+part-behind old new front text k short written = grind (arith, nat_tests, (length-append front text), (take-append-add front text k))
 
 -- a batch that waited was closed, or it wasn't
 module _ (settings : Settings) (roads : Roads) (book : BookView) (waits : Option Batch) (batch : Batch) (before after : OutputsView)
