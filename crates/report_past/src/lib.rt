@@ -8,6 +8,14 @@
 //! The laws say how a day goes on: what the report tells, where its closes are good, and a run from where it ends, are one
 //! run, and its text is one report.
 //!
+//! A caller, as `ridepool` goes on with a day whose head was read and whose text stands behind it:
+//!
+//! ```
+//! let past = read_past(rt, alloc, text, &network, &fleet, &settings, judge, gate)?;
+//! write_all(&mut sink, past.kept)?;
+//! let next = past.book.next_position();
+//! ```
+//!
 //! Main clauses: `whole_size`: `whole`, `longest`; `read_past`: `past`; the laws `a_day_goes_on`: `run`, `text`;
 //! `a_close_ends_its_past`: `good`, `text`, `state`, `position`.
 #![tactic(auto)]
