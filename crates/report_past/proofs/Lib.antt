@@ -4,6 +4,8 @@ mod FinishLemmas
 mod ItemLemmas
 mod LaterLemmas
 mod LawLemmas
+mod LeftLemmas
 mod RoundLemmas
+mod RunLeftLemmas
 mod StepLemmas
 mod TakeLemmas

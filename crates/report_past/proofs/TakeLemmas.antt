@@ -111,12 +111,12 @@ plain_block : (command : Command) (reply : Reply) → IsNoClose command → entr
 plain_block (Close batch outcome) reply plain = absurd plain
 plain_block _ reply plain = refl
 
-row_text : (position : ℕ) (e : Entry) → IsNoClose e.command → entry_text true position e ≡ entry_line position e ++ 10 ∷ []
+pub row_text : (position : ℕ) (e : Entry) → IsNoClose e.command → entry_text true position e ≡ entry_line position e ++ 10 ∷ []
 row_text position e plain =
     ap (λ ls. lines_text ((entry_line position e ∷ []) ++ ls)) (plain_block e.command e.reply plain)
     ∙ sym (append-nil (lines_text (entry_line position e ∷ []))) ∙ one_text (entry_line position e) []
 
-close_text : (position : ℕ) (batch : Batch) (outcome : Outcome) (rest : List ℕ)
+pub close_text : (position : ℕ) (batch : Batch) (outcome : Outcome) (rest : List ℕ)
     → entry_text true position (close_of batch outcome) ++ rest ≡ entry_line position (close_of batch outcome) ++ 10 ∷
     (lines_text (block_lines true batch.number outcome) ++ rest)
 close_text position batch outcome rest = first_line (entry_line position (close_of batch outcome)) (block_lines true batch.number outcome) rest

@@ -1,0 +1,5 @@
+use Rattle.report_past.proofs.RunLeftLemmas.{run_left}
+use Rattle.report_past.proofs.laws.a_report_is_left.Goals as goal
+
+pub returns : goal.returns
+returns c settings roads vehicles rows made are run told = run_left settings roads vehicles rows made are run told
