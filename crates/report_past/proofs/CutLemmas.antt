@@ -43,7 +43,7 @@ abbrev One : List ℕ → Type 0
 One line = is_one_line line ≡ true
 
 -- lines end at line feeds, and there alone
-cut_once : (a b r s : List ℕ) → is_one_line a ≡ true → is_one_line b ≡ true → a ++ 10 ∷ r ≡ b ++ 10 ∷ s → (a ≡ b) × (r ≡ s)
+pub cut_once : (a b r s : List ℕ) → is_one_line a ≡ true → is_one_line b ≡ true → a ++ 10 ∷ r ≡ b ++ 10 ∷ s → (a ≡ b) × (r ≡ s)
 cut_once [] [] r s ia ib e = grind arith
 cut_once [] (b ∷ ys) r s ia ib e = grind (arith, nat_tests)
 cut_once (a ∷ xs) [] r s ia ib e = grind (arith, nat_tests)

@@ -5,6 +5,7 @@ mod ItemLemmas
 mod LaterLemmas
 mod LawLemmas
 mod LeftLemmas
+mod NextLeftLemmas
 mod RoundLemmas
 mod RunLeftLemmas
 mod StepLemmas
