@@ -10,3 +10,4 @@ mod RoundLemmas
 mod RunLeftLemmas
 mod StepLemmas
 mod TakeLemmas
+mod WholeLeftLemmas

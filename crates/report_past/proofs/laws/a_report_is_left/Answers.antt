@@ -1,3 +1,4 @@
+use Rattle.report_past.proofs.WholeLeftLemmas.{block_stands}
 use Rattle.report_past.proofs.NextLeftLemmas.{next_left}
 use Rattle.report_past.proofs.RunLeftLemmas.{run_left}
 use Rattle.report_past.proofs.laws.a_report_is_left.Goals as goal
