@@ -49,7 +49,19 @@ use Rattle.input_rows.specs.script.Round.{MayStand}
 use Rattle.live_dispatch.proofs.lemmas.EntryLemmas.{lines-append, next-low}
 use Rattle.pool_io.specs.Faults.{one_more}
 use Rattle.report_audit.specs.report.Types.{AreTold, IsTold}
-use Rattle.report_past.proofs.StepLemmas.{closed_reply, closed_state, no_close, none_owed, not_owed, other_lane, own_lane, owes_of, same_owed, sealed_next, snapshot_none}
+use Rattle.report_past.proofs.StepLemmas.{
+  closed_reply,
+  closed_state,
+  no_close,
+  none_owed,
+  not_owed,
+  other_lane,
+  own_lane,
+  owes_of,
+  same_owed,
+  sealed_next,
+  snapshot_none,
+}
 use Rattle.report_past.proofs.TakeLemmas.{close_text, row_text}
 use Rattle.report_past.specs.Told.{close_of}
 use Rattle.report_past.specs.work.Left.{Goes, IsLeft}
@@ -107,7 +119,8 @@ module _ (settings : Settings) (roads : Roads) where
         let shown = step-sealed roads.nodes settings.wait s e.command ∙ ap sealed_by (sym replies) in
         let now : (next s e.command).sealed ≡ last_sealed open_batch snapshot = sealed_next roads.nodes settings.wait s e.command plain ∙
         ap (λ o. last_sealed o snapshot) sealed in
-        Turn.row own.0 own.1 (λ zero_is. sealed ∙ free zero_is) (λ lane. subst (λ o. Goes whole (owed o lane) (of_lane lane es)) (sym now) (elim (cases_eq e.lane lane) [
+        Turn.row own.0 own.1 (λ zero_is. sealed ∙ free zero_is) (λ lane. subst (λ o. Goes whole (owed o lane) (of_lane lane es)) (sym now)
+        (elim (cases_eq e.lane lane) [
           | inl same ↦ subst (λ l. Goes whole (owed (last_sealed open_batch snapshot) l) (of_lane l es)) same
               (subst (λ p. Goes whole p (of_lane e.lane es)) (sym (owes_of open_batch snapshot e.lane (sealed_by e.reply) free quiet shown)) own.2)
           | inr other ↦ subst (λ p. Goes whole p (of_lane lane es)) (sym (same_owed open_batch snapshot e.lane lane quiet other)) (others lane other)

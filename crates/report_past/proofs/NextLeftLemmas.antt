@@ -6,6 +6,7 @@ use Rattle.std.proofs.Common.{
   ◌^◌,
   Bool,
   true,
+  false,
   List,
   [],
   ◌∷◌,
@@ -37,9 +38,11 @@ use Rattle.report_audit.specs.declared.lines.next.NextLine.TheVariants.{Round, D
 use Rattle.report_audit.specs.lines.Cut.{is_one_line}
 use Rattle.report_audit.specs.lines.Next.{IsNextLine}
 use Rattle.report_past.proofs.CutLemmas.{cut_once, one_text}
+use Rattle.report_past.proofs.WholeLeftLemmas.{Ends, ends_first, ends_one}
 use Rattle.report_past.specs.Past.{dropped_text}
 use Rattle.report_past.specs.Told.{close_of}
 use Rattle.report_past.specs.work.Left.{IsLeft}
+use Rattle.report_past.specs.Whole.{after_line}
 use Rattle.report_past.specs.work.Reading.{StandsIn, start_text}
 use Rattle.request_book.specs.values.Batch.{Batch}
 use Rattle.request_book.specs.declared.values.state.State.{State}
@@ -72,7 +75,8 @@ pub record IsNextLeft (line after : List ℕ) : Type 0 where
   pub no_round : NotRound next
   pub ends : (n : ℕ) → next ≡ Done n → after ≡ []
 
-named_round : (last : Option ℕ) (open_batch : Option Batch) (round : Option ℕ) (number : ℕ) → StandsIn last open_batch round number → IfSome round (λ n. n < 2 ^ 32)
+named_round : (last : Option ℕ) (open_batch : Option Batch) (round : Option ℕ) (number : ℕ) → StandsIn last open_batch round number →
+    IfSome round (λ n. n < 2 ^ 32)
 named_round last open_batch None number stands = tt
 named_round last open_batch (Some n) number stands = omega (arith, stands.0, stands.2)
 
@@ -95,6 +99,13 @@ module _ (one_line : (x : NextLine) (line : List ℕ) → IsNextLine x line → 
   round_other : (n : ℕ) (x : NextLine) (l : List ℕ) → n < 2 ^ 32 → numbered (codes "round ") n ≡ l → IsNextLine x l → NotRound x → ⊥
   round_other n x l low is next other = subst NotRound (one_kind x (Round n) l next (low, sym is)) other
 
+  -- of whole lines none is cut behind the line of a round
+  pub none_cut : (found : Option ℕ) (at : List ℕ) → IfSome found (λ n. n < 2 ^ 32) → Ends false (start_text found ++ at) → is_one_line at ≡ true → at ≡ []
+  none_cut None at low ends one = ends_one false at ends one
+  none_cut (Some n) at low ends one =
+      let line = numbered (codes "round ") n in
+      ends_one (after_line false line) at (ends_first false line at (round_one n low) (subst (Ends false) (round_text_of n at) ends)) one
+
   start_same : (found round : Option ℕ) (line after l rest : List ℕ) (x : NextLine) → IfSome found (λ n. n < 2 ^ 32) → IfSome round (λ n. n < 2 ^ 32)
       → is_one_line line ≡ true → IsNextLine x l → NotRound x → (found ≡ None → (n : ℕ) → n < 2 ^ 32 → line ≡ numbered (codes "round ") n → ⊥)
       → start_text found ++ (line ++ 10 ∷ after) ≡ start_text round ++ (l ++ 10 ∷ rest) → (found ≡ round) × (line ≡ l) × (after ≡ rest)
@@ -102,12 +113,14 @@ module _ (one_line : (x : NextLine) (line : List ℕ) → IsNextLine x line → 
       let same = cut_once line l after rest one (one_line x l next) e in
       (refl, same.0, same.1)
   start_same None (Some n) line after l rest x low small one next other plain e =
-      absurd (plain refl n small (cut_once line (numbered (codes "round ") n) after (l ++ 10 ∷ rest) one (round_one n small) (e ∙ round_text_of n (l ++ 10 ∷ rest))).0)
+      absurd (plain refl n small (cut_once line (numbered (codes "round ") n) after (l ++ 10 ∷ rest) one (round_one n small)
+      (e ∙ round_text_of n (l ++ 10 ∷ rest))).0)
   start_same (Some m) None line after l rest x low small one next other plain e =
       absurd (round_other m x l low (cut_once (numbered (codes "round ") m) l (line ++ 10 ∷ after) rest (round_one m low) (one_line x l next)
       (sym (round_text_of m (line ++ 10 ∷ after)) ∙ e)).0 next other)
   start_same (Some m) (Some n) line after l rest x low small one next other plain e =
-      let same = cut_once (numbered (codes "round ") m) (numbered (codes "round ") n) (line ++ 10 ∷ after) (l ++ 10 ∷ rest) (round_one m low) (round_one n small)
+      let same = cut_once (numbered (codes "round ") m) (numbered (codes "round ") n) (line ++ 10 ∷ after) (l ++ 10 ∷ rest) (round_one m low)
+      (round_one n small)
       (sym (round_text_of m (line ++ 10 ∷ after)) ∙ e ∙ round_text_of n (l ++ 10 ∷ rest)) in
       let parts = cut_once line l after rest one (one_line x l next) same.1 in
       (ap (λ y. Some (number_of y)) (one_kind (Round m) (Round n) (numbered (codes "round ") m) (low, refl) (small, same.0)), parts.0, parts.1)
@@ -134,7 +147,8 @@ module _ (one_line : (x : NextLine) (line : List ℕ) → IsNextLine x line → 
     dropped_next round None small few e = absurd (start_none found round line (after ++ more) low small one plain e)
     dropped_next round (Some k) small few e =
         let l = numbered (codes "done ") k in
-        let same = start_same found round line (after ++ more) l [] (Done k) low small one (few, refl) tt plain (e ∙ ap (λ t. start_text round ++ t) (done_text_of k)) in
+        let same = start_same found round line (after ++ more) l [] (Done k) low small one (few, refl) tt plain
+        (e ∙ ap (λ t. start_text round ++ t) (done_text_of k)) in
         record { next = Done k; is = (few, same.1); no_round = tt; ends = λ n _. front_none after more same.2 }
 
     entry_next : (lane : ℕ) (round : Option ℕ) (l rest : List ℕ) → IfSome round (λ n. n < 2 ^ 32) → IsNextLine (EntryOf lane) l
@@ -147,11 +161,13 @@ module _ (one_line : (x : NextLine) (line : List ℕ) → IsNextLine x line → 
         IsNextLeft line after
     next_left last s p left = by last s p ((start_text found ++ (line ++ 10 ∷ after)) ++ more) left refl
       where
-        by : (last : Option ℕ) (s : State) (p : ℕ) (text : List ℕ) → IsLeft settings roads last s p text → text ≡ (start_text found ++ (line ++ 10 ∷ after)) ++ more
+        by : (last : Option ℕ) (s : State) (p : ℕ) (text : List ℕ) → IsLeft settings roads last s p text →
+            text ≡ (start_text found ++ (line ++ 10 ∷ after)) ++ more
             → IsNextLeft line after
         by last s p text (IsLeft.drops _ _ _ _ round entries small few is) e = dropped_next round entries small few (sym joined_text ∙ sym e ∙ is)
         by last s p text (IsLeft.row _ _ _ _ round number x rest stands may within free told replies left is) e =
-            entry_next x.lane round (entry_line p x) rest (named_round last s.sealed round number stands) (p, x, told, refl, refl) (sym joined_text ∙ sym e ∙ is)
+            entry_next x.lane round (entry_line p x) rest (named_round last s.sealed round number stands) (p, x, told, refl, refl)
+            (sym joined_text ∙ sym e ∙ is)
         by last s p text (IsLeft.close _ _ _ _ batch outcome rest sealed told fits good left is) e =
             entry_next 0 None (entry_line p (close_of batch outcome)) (lines_text (block_lines true batch.number outcome) ++ rest) tt
             (p, close_of batch outcome, told, refl, refl) (sym joined_text ∙ sym e ∙ is)

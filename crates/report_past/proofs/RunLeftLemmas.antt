@@ -57,6 +57,7 @@ use Rattle.report_past.proofs.LaterLemmas.{All-distinct, All-numbers, of_round}
 use Rattle.report_past.proofs.LeftLemmas.{entries_left, other_first, own_first}
 use Rattle.report_past.proofs.RoundLemmas.{round-beyond}
 use Rattle.report_past.proofs.StepLemmas.{none_owed}
+use Rattle.report_past.specs.Past.{MayBeLeft}
 use Rattle.report_past.specs.Told.{AreScriptRows}
 use Rattle.report_past.specs.work.Left.{Goes, IsLeft}
 use Rattle.report_past.specs.work.Reading.{IsAbove, owed}
@@ -84,8 +85,7 @@ goes_of whole lane None [] (e ∷ es) rest run stand own none = absurd run
 goes_of whole lane None (c ∷ cs) (e ∷ es) rest run stand own none =
     let Own = λ (x : Entry). x.lane ≡ lane in
     let is : e.lane ≡ lane = All-head Own e es own in
-    let may : Stand lane c = All-head (Stand lane) c cs stand in
-    (
+    let may : Stand lane c = All-head (Stand lane) c cs stand in (
       subst (λ l. MayStand l e.command) (sym is) (subst (MayStand lane) (sym run.0) may.0),
       omega (arith, is, may.1),
       goes_of whole lane (sealed_by e.reply) cs es rest run.1 (All-tail (Stand lane) c cs stand) (All-tail Own e es own) none,
@@ -137,7 +137,8 @@ module _ (settings : Settings) (roads : Roads) where
     closes = run.closes;
     goes = λ lane. goes_of true lane None (lane_at r lane) (of_lane lane j.entries) [] (subst (IsLaneRunFrom None (lane_at r lane))
         (sym (append-nil (of_lane lane j.entries))) (run.lanes lane)) (ok.stands lane) (own_all lane j.entries) (λ _. refl);
-    some = λ _ empty. ok.some (λ lane. no_commands (lane_at r lane) (subst (λ es. IsLaneRunFrom None (lane_at r lane) (of_lane lane es)) empty (run.lanes lane)));
+    some = λ _ empty. ok.some (λ lane. no_commands (lane_at r lane) (subst (λ es. IsLaneRunFrom None (lane_at r lane) (of_lane lane es)) empty
+        (run.lanes lane)));
   }
 
   round_begins : (r : NumberedLanes) (j : Journal) → IsOk r → IsRoundBeginning settings roads r j → RoundGoes false j
@@ -213,7 +214,8 @@ module _ (settings : Settings) (roads : Roads) where
   round_left last s p r rs (e ∷ es) js low above named closed goes told begun after =
       entries_left settings roads (whole_of rs) last (Some r.number) r.number p s e es (rest_text (next_position p (e ∷ es)) rs js)
       (refl, above, named, closed) low
-      (λ lane. subst (λ o. Goes (whole_of rs) (owed o lane) (of_lane lane (e ∷ es))) (sym closed) (none_goes (whole_of rs) lane (of_lane lane (e ∷ es)) (goes.goes lane)))
+      (λ lane. subst (λ o. Goes (whole_of rs) (owed o lane) (of_lane lane (e ∷ es))) (sym closed)
+      (none_goes (whole_of rs) lane (of_lane lane (e ∷ es)) (goes.goes lane)))
       goes.replies goes.closes told after
     where
       none_goes : (whole : Bool) (lane : ℕ) (fs : List Entry) → Goes whole None fs → Goes whole (owed None lane) fs
@@ -240,7 +242,8 @@ lane_is rows number lane within =
     get_or-map-range_with_len (λ k. map (λ (l : ScriptRow). l.command) (filter (λ l. eqb l.round number && eqb l.lane k) rows)) 0 16 lane lane [] within
     (omega arith)
 
-hit : (row : ScriptRow) (rows : List ScriptRow) (n lane : ℕ) → row.round ≡ n → row.lane ≡ lane → of_round (row ∷ rows) n lane ≡ row.command ∷ of_round rows n lane
+hit : (row : ScriptRow) (rows : List ScriptRow) (n lane : ℕ) → row.round ≡ n → row.lane ≡ lane →
+    of_round (row ∷ rows) n lane ≡ row.command ∷ of_round rows n lane
 hit row rows n lane round own = grind (arith, nat_tests, round, own)
 
 miss_round : (row : ScriptRow) (rows : List ScriptRow) (n lane : ℕ) → row.round ≢ n → of_round (row ∷ rows) n lane ≡ of_round rows n lane
@@ -255,10 +258,10 @@ of_stands last (row ∷ rows) n lane low are =
     let more = of_stands row.round rows n lane low are.1 in
     elim (cases_eq row.lane lane) [
       | inl own ↦ elim (cases_eq row.round n) [
-          | inl round ↦ subst (All (Stand lane)) (sym (hit row rows n lane round own)) (All-cons (Stand lane) row.command (of_round rows n lane)
-              (subst (λ l. Stand l row.command) own (are.0.stands, are.0.lane)) more)
-          | inr other ↦ subst (All (Stand lane)) (sym (miss_round row rows n lane other)) more
-        ]
+        | inl round ↦ subst (All (Stand lane)) (sym (hit row rows n lane round own)) (All-cons (Stand lane) row.command (of_round rows n lane)
+            (subst (λ l. Stand l row.command) own (are.0.stands, are.0.lane)) more)
+        | inr other ↦ subst (All (Stand lane)) (sym (miss_round row rows n lane other)) more
+      ]
       | inr other ↦ subst (All (Stand lane)) (sym (miss_lane row rows n lane other)) more
     ]
 
@@ -276,9 +279,9 @@ HasRow (row ∷ rows) n = (row.round ≡ n) ⊎ HasRow rows n
 tail_none : (row : ScriptRow) (rows : List ScriptRow) (n lane : ℕ) → of_round (row ∷ rows) n lane ≡ [] → of_round rows n lane ≡ []
 tail_none row rows n lane none = elim (cases_eq row.lane lane) [
   | inl own ↦ elim (cases_eq row.round n) [
-      | inl round ↦ absurd (let no : row.command ∷ of_round rows n lane ≡ [] = sym (hit row rows n lane round own) ∙ none in cc)
-      | inr other ↦ sym (miss_round row rows n lane other) ∙ none
-    ]
+    | inl round ↦ absurd (let no : row.command ∷ of_round rows n lane ≡ [] = sym (hit row rows n lane round own) ∙ none in cc)
+    | inr other ↦ sym (miss_round row rows n lane other) ∙ none
+  ]
   | inr other ↦ sym (miss_lane row rows n lane other) ∙ none
 ]
 
@@ -349,3 +352,9 @@ run_left settings roads vehicles rows made are run told =
     rounds_left settings roads None (opening vehicles) 0 (rows_rounds rows) made (omega arith)
     (rounds_rise rows None 0 ns (numbers_rise 0 rows are) (λ n h. tt))
     (begun settings roads (opening vehicles) 0 (rows_rounds rows) made (ok_all rows ns are has) run) told (λ _. refl)
+
+-- what a run may leave is a beginning of it
+pub left_of : (settings : Settings) (roads : Roads) (vehicles : List Vehicle) (text : List ℕ) (m : MayBeLeft settings roads vehicles text)
+    → IsLeft settings roads None (opening vehicles) 0 (text ++ m.rest)
+left_of settings roads vehicles text m =
+    subst (IsLeft settings roads None (opening vehicles) 0) (sym m.begins) (run_left settings roads vehicles m.rows m.made m.lawful m.run m.types)

@@ -101,11 +101,11 @@ block_stands (b ∷ bs) (l ∷ ls) text more tail (one, more_blocks) ones printe
     λ after is. printed ∙ lines_first l ls ∙ (λ i. same.0 i ++ 10 ∷ is i) ∙ sym (first_line b bs after) in
     elim more_blocks [
       | inl last ↦ record {
-          after = lines_text ls;
-          block = whole (lines_text ls) (sym (no_text (lines_text ls)) ∙ ap (λ xs. lines_text xs ++ lines_text ls) (sym last.1));
-          rest = sym (no_text tail) ∙ ap (λ xs. lines_text xs ++ tail) (sym last.1) ∙ sym same.1;
-          ends = record { lines = ls; ones = All-tail One l ls ones; printed = refl; closed = ap (λ c. after_lines (not c) ls) (sym last.0) ∙ behind };
-        }
+        after = lines_text ls;
+        block = whole (lines_text ls) (sym (no_text (lines_text ls)) ∙ ap (λ xs. lines_text xs ++ lines_text ls) (sym last.1));
+        rest = sym (no_text tail) ∙ ap (λ xs. lines_text xs ++ tail) (sym last.1) ∙ sym same.1;
+        ends = record { lines = ls; ones = All-tail One l ls ones; printed = refl; closed = ap (λ c. after_lines (not c) ls) (sym last.0) ∙ behind };
+      }
       | inr further ↦
           let stands = block_stands bs ls (lines_text ls) more tail further.1 (All-tail One l ls ones) refl
           (ap (λ c. after_lines (not c) ls) (sym further.0) ∙ behind) same.1 in

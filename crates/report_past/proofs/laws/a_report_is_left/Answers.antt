@@ -1,6 +1,6 @@
 use Rattle.report_past.proofs.WholeLeftLemmas.{block_stands}
-use Rattle.report_past.proofs.NextLeftLemmas.{next_left}
-use Rattle.report_past.proofs.RunLeftLemmas.{run_left}
+use Rattle.report_past.proofs.NextLeftLemmas.{next_left, none_cut}
+use Rattle.report_past.proofs.RunLeftLemmas.{left_of, run_left}
 use Rattle.report_past.proofs.laws.a_report_is_left.Goals as goal
 
 pub returns : goal.returns
