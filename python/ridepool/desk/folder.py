@@ -1,5 +1,7 @@
 """The folder of a day: the inputs, the words, the accepted rows and the transcript. It outlives the desk at any moment."""
 
+from __future__ import annotations
+
 import contextlib
 import fcntl
 import hashlib
@@ -8,7 +10,9 @@ import os
 import pathlib
 import shutil
 
-from ridepool.sessions.rows import HEADER, rows_of
+from typing import IO
+
+from ridepool.sessions.rows import HEADER
 from ridepool.words import Fault
 
 INPUTS = ("network", "fleet", "nodes")
@@ -44,6 +48,39 @@ def sync_folder(path):
         os.fsync(handle)
     finally:
         os.close(handle)
+
+
+class NewFiles:
+    """The files of rows and transcript under other names, until they are whole enough to take the place of the old ones."""
+
+    def __init__(self, path: pathlib.Path) -> None:
+        self.parts = {name: path / f"{name}.part" for name in (TRANSCRIPT, ROWS)}
+        for part in self.parts.values():
+            part.unlink(missing_ok=True)
+        self.transcript: IO[str] = open(self.parts[TRANSCRIPT], "a", encoding="ascii", newline="")
+        self.rows: IO[str] = open(self.parts[ROWS], "a", encoding="ascii", newline="")
+        self.rows.write(HEADER + "\n")
+
+    def write(self, rows: str, lines: str) -> None:
+        """Writes rows and lines."""
+        self.rows.write(rows)
+        self.transcript.write(lines)
+
+    def take_place(self, path: pathlib.Path) -> None:
+        """Takes the place of the old files, once all that was written is on disk."""
+        for file in (self.rows, self.transcript):
+            file.flush()
+            os.fsync(file.fileno())
+        for name, part in self.parts.items():
+            os.replace(part, path / name)
+
+    def drop(self) -> None:
+        """Removes the files, where they don't take the place of the old ones."""
+        for file in (self.rows, self.transcript):
+            with contextlib.suppress(OSError):
+                file.close()
+        for part in self.parts.values():
+            part.unlink(missing_ok=True)
 
 
 class Folder:
@@ -113,37 +150,36 @@ class Folder:
 
     def has_lost_transcript(self):
         """Whether rows were kept, and the transcript is missing or has lost its first lines, which are written at once."""
-        path = self.path / TRANSCRIPT
-        head = path.read_bytes().count(b"\n", 0, 4096) if path.exists() else 0
-        return head < HEAD_LINES and (self.path / ROWS).exists()
+        return self.transcript_bytes() is None and self.count_rows() > 0
 
-    def kept_rows(self):
-        """The whole rows of the script that stands beside the transcript."""
-        lines = (self.path / ROWS).read_text(encoding="ascii", errors="replace").split("\n")[1:-1]
-        return [line + "\n" for line in lines]
+    def count_rows(self):
+        """How many rows the script that stands beside the transcript has."""
+        path = self.path / ROWS
+        return max(0, path.read_bytes().count(b"\n") - 1) if path.exists() else 0
 
-    def kept_lines(self):
-        """The whole lines of the transcript so far, but for last ones that answer no row: `done N`, where the day
-        ended, and the line of a round of which no entry was written yet."""
-        path = self.path / TRANSCRIPT
+    @property
+    def transcript_path(self):
+        """Where the transcript stands."""
+        return self.path / TRANSCRIPT
+
+    def transcript_bytes(self):
+        """The bytes of the transcript so far; None where it has no first lines."""
+        path = self.transcript_path
         if not path.exists():
-            return []
-        lines = path.read_text(encoding="ascii", errors="replace").split("\n")[:-1]
-        while lines and lines[-1].startswith(("done ", "round ")):
-            lines.pop()
-        return lines
+            return None
+        with open(path, "rb") as file:
+            return os.fstat(file.fileno()).st_size if file.read(4096).count(b"\n") >= HEAD_LINES else None
 
-    def keep(self, lines, replaced=False):
-        """Begins the files anew with the lines of a transcript. A replaced transcript stays beside them."""
+    def begin_anew(self):
+        """New files of rows and transcript, beside the old ones."""
+        return NewFiles(self.path)
+
+    def take(self, files):
+        """Puts new files in the place of the old ones, and goes on with them."""
         self.close()
-        path = self.path / TRANSCRIPT
-        if replaced:
-            count = len(list(self.path.glob(f"{TRANSCRIPT}.*"))) + 1
-            shutil.copyfile(path, self.path / f"{TRANSCRIPT}.{count}")
-        write_whole(path, "".join(line + "\n" for line in lines))
-        write_whole(self.path / ROWS, HEADER + "\n" + rows_of(lines))
-        self.rows = open(self.path / ROWS, "a", encoding="ascii")
-        self.transcript = open(path, "a", encoding="ascii")
+        files.take_place(self.path)
+        sync_folder(self.path)
+        self.rows, self.transcript = files.rows, files.transcript
 
     def append(self, rows, lines):
         """Hands rows and lines to the system; `sync` makes them last."""

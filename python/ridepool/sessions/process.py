@@ -1,4 +1,4 @@
-"""A started `ridepool live`: rows go in, whole lines of the transcript come out."""
+"""A started `ridepool live` or `ridepool resume`: rows go in, whole lines of the transcript come out."""
 
 import asyncio
 import contextlib
@@ -11,12 +11,13 @@ REFUSED_ROW = re.compile(r"ridepool: script: (.* )?row (\d+)( .*)?$")
 
 
 class Live:
-    """The running program. `on_lines` is told whole lines as they come, `on_refused` the number of a row that
-    was refused and the text, `on_end` the text of the end."""
+    """The running program; `words` begin with its command. `on_lines` is told whole lines as they come, `on_refused` the
+    number of a row that was refused and the text, `on_end` the text of the end, `on_other` each other line of standard
+    error, and gives whether it was meant."""
 
-    def __init__(self, program, words, on_lines, on_refused, on_end):
-        self.command = [str(program), "live", *words]
-        self.on_lines, self.on_refused, self.on_end = on_lines, on_refused, on_end
+    def __init__(self, program, words, on_lines, on_refused, on_end, on_other=None):
+        self.command = [str(program), *words]
+        self.on_lines, self.on_refused, self.on_end, self.on_other = on_lines, on_refused, on_end, on_other
         self.child, self.reading, self.told = None, None, ""
 
     async def start(self):
@@ -49,7 +50,7 @@ class Live:
         with contextlib.suppress(OSError):
             await self.child.stdin.wait_closed()
         how = f"was ended by signal {-status}" if status < 0 else f"ended with status {status}"
-        self.on_end(f"ridepool live {how}" + (f": {self.told}" if self.told else ""))
+        self.on_end(f"ridepool {self.command[1]} {how}" + (f": {self.told}" if self.told else ""))
 
     async def read_lines(self):
         """Hands on whole lines as they come."""
@@ -66,7 +67,7 @@ class Live:
             refused = REFUSED_ROW.match(text)
             if refused:
                 self.on_refused(int(refused.group(2)), text)
-            else:
+            elif self.on_other is None or not self.on_other(text):
                 self.told = text
 
     def is_stopped(self):

@@ -1,9 +1,8 @@
-"""The rows that `ridepool live` is sent. All of a day stand in one round, so that no row waits for another lane."""
+"""The rows that `ridepool live` is sent. All of a start stand in one round, so that no row waits for another lane."""
 
-from typing import Iterable, List, Sequence
+from typing import Sequence
 
-from ridepool.report.reader import Entry, entry_of
-from ridepool.words import Fault
+from ridepool.report.reader import Entry
 
 HEADER = "round,lane,command,a,b,c,d,e"
 RIDER_LANES, VEHICLE_LANES = range(1, 12), range(12, 16)
@@ -25,22 +24,5 @@ def row_of(lane: int, command: str, fields: Sequence[int], party: int = 1, round
 
 
 def entrys_row(entry: Entry) -> str:
-    """The row that an entry of a transcript answers."""
-    return row_of(entry.lane, entry.command, entry.fields, entry.party)
-
-
-def entries_of(lines: Iterable[str]) -> List[Entry]:
-    """The entries among the lines of a transcript: those of rows, and the closes."""
-    found = []
-    for number, line in enumerate(lines, 1):
-        if line[:1].isdigit():
-            try:
-                found.append(entry_of(0, line.split(" ")))
-            except (ValueError, KeyError, IndexError):
-                raise Fault(f"transcript: line {number} is not one of a report") from None
-    return found
-
-
-def rows_of(lines: Iterable[str]) -> str:
-    """The rows that a transcript answers, as a text."""
-    return "".join(entrys_row(it) for it in entries_of(lines) if it.command != "close")
+    """The row that an entry of a transcript answers, in its round."""
+    return row_of(entry.lane, entry.command, entry.fields, entry.party, entry.round)
