@@ -49,27 +49,39 @@ def killed_at_drawn_moments(program, folder, kills, seed):
     need(len(before) + len(left) == len(day.rows), "rows are lost")
 
 
+def torn_example(program, folder):
+    """The example of `live`, torn before its close: the day, what stands of its report, and the words of a call that goes on."""
+    street(folder)
+    day = Day(program, folder, EXAMPLE)
+    torn = day.report[: day.report.index(b"3 0 close")]
+    (folder / "report.csv").write_bytes(torn)
+    (folder / "script.csv").write_text(script_of(Kept(torn).parted(EXAMPLE)[1]))
+    return day, torn, ["resume", "network=network.csv", "fleet=fleet.csv", "report=report.csv", "script=script.csv", "notices=notices"]
+
+
 def failing_calls(program, folder):
     """Each read of network, fleet, report and script fails once, each write, and some requests of memory: status 7, 8 or 9. The
-    report that is read stays, and what is written begins the new one."""
-    street(folder)
+    report that is read stays, and what is written begins the new one. Where memory fails the search may come to another tree;
+    what stands then goes on as well."""
     shim = Shim(program)
     if shim.why:
         raise Skipped(f"failing calls of resume, since {shim.why}")
-    day = Day(program, folder, EXAMPLE)
-    torn = day.report[: day.report.index(b"3 0 close")]
-    (folder / "torn").write_bytes(torn)
-    (folder / "script.csv").write_text(script_of(Kept(torn).parted(EXAMPLE)[1]))
-    words = ["resume", "network=network.csv", "fleet=fleet.csv", "report=torn", "script=script.csv", "notices=told"]
-    most = {"script": 5, "output": 50}
+    day, torn, words = torn_example(program, folder)
+    most = {"network": 40, "fleet": 10, "report": 40, "script": 5, "output": 50, "notices": 20}
     plan = Plan(most)
     whole = shim.run(folder, words, plan)
     need(whole.returncode == 0, f"status {whole.returncode}, {whole.stderr!r}")
-    for kind, status in ("network", 7), ("fleet", 7), ("report", 7), ("script", 7), ("output", 8), ("memory", 9):
+    told = (folder / "notices").read_bytes()
+    for kind, status in ("network", 7), ("fleet", 7), ("report", 7), ("script", 7), ("output", 8), ("notices", 0), ("memory", 9):
         step = max(1, plan.calls[kind] // MEMORY_CALLS) if kind == "memory" else 1
+        need(plan.calls[kind] > 1, f"there are only {plan.calls[kind]} calls on {kind}")
         for call in range(1, plan.calls[kind] + 1, step):
             ran = shim.run(folder, words, Plan(most, {kind: call}))
-            need(ran.returncode == status or kind == "memory" and ran.returncode == 0, f"status {ran.returncode} where call {call} on {kind} fails")
-            need(whole.stdout.startswith(ran.stdout), f"another beginning where call {call} on {kind} fails")
-            need(kind not in ("network", "fleet", "report") or not ran.stdout, f"something is written where call {call} on {kind} fails")
-            need((folder / "torn").read_bytes() == torn, "the report that is read isn't as it was")
+            where = f"where call {call} on {kind} fails"
+            need(ran.returncode == status or kind == "memory" and ran.returncode == 0, f"status {ran.returncode} {where}")
+            need(not ran.stdout or kind not in ("network", "fleet", "report"), f"something is written {where}")
+            need((folder / "report.csv").read_bytes() == torn, f"the report that is read isn't as it was {where}")
+            need(kind == "memory" or whole.stdout.startswith(ran.stdout), f"another beginning {where}")
+            need(told.startswith((folder / "notices").read_bytes()) or not ran.stdout, f"other notices {where}")
+            if kind == "memory" and Kept(ran.stdout).has_head:
+                day.goes_on(ran.stdout)

@@ -57,7 +57,7 @@ class Book:
         if change is not None and change.batch is not None:
             self.tally["expired"] += len(change.batch.expired)
             self.tally["lapsed"] += len(change.batch.lapsed)
-        elif change is not None:
+        elif change is not None and change.entry is not None:
             self.count(change.entry)
         return change
 

@@ -1,7 +1,5 @@
 """The folder of a day: the inputs, the words, the accepted rows and the transcript. It outlives the desk at any moment."""
 
-from __future__ import annotations
-
 import contextlib
 import fcntl
 import hashlib
@@ -10,13 +8,11 @@ import os
 import pathlib
 import shutil
 
-from typing import IO
-
-from ridepool.sessions.rows import HEADER
+from ridepool.desk.new_files import ROWS, TRANSCRIPT, NewFiles
 from ridepool.words import Fault
 
 INPUTS = ("network", "fleet", "nodes")
-DESCRIPTION, ROWS, TRANSCRIPT = "day.json", "rows.csv", "transcript"
+DESCRIPTION = "day.json"
 HEAD_LINES = 4  # of a transcript, before the first round
 KINDS = {"settings": list, "speed": int, "every": int, "began": (int, float)}
 
@@ -48,39 +44,6 @@ def sync_folder(path):
         os.fsync(handle)
     finally:
         os.close(handle)
-
-
-class NewFiles:
-    """The files of rows and transcript under other names, until they are whole enough to take the place of the old ones."""
-
-    def __init__(self, path: pathlib.Path) -> None:
-        self.parts = {name: path / f"{name}.part" for name in (TRANSCRIPT, ROWS)}
-        for part in self.parts.values():
-            part.unlink(missing_ok=True)
-        self.transcript: IO[str] = open(self.parts[TRANSCRIPT], "a", encoding="ascii", newline="")
-        self.rows: IO[str] = open(self.parts[ROWS], "a", encoding="ascii", newline="")
-        self.rows.write(HEADER + "\n")
-
-    def write(self, rows: str, lines: str) -> None:
-        """Writes rows and lines."""
-        self.rows.write(rows)
-        self.transcript.write(lines)
-
-    def take_place(self, path: pathlib.Path) -> None:
-        """Takes the place of the old files, once all that was written is on disk."""
-        for file in (self.rows, self.transcript):
-            file.flush()
-            os.fsync(file.fileno())
-        for name, part in self.parts.items():
-            os.replace(part, path / name)
-
-    def drop(self) -> None:
-        """Removes the files, where they don't take the place of the old ones."""
-        for file in (self.rows, self.transcript):
-            with contextlib.suppress(OSError):
-                file.close()
-        for part in self.parts.values():
-            part.unlink(missing_ok=True)
 
 
 class Folder:

@@ -6,7 +6,7 @@ from __future__ import annotations
 from typing import List, Optional
 
 from ridepool.desk.book import Book
-from ridepool.desk.folder import NewFiles
+from ridepool.desk.new_files import NewFiles
 from ridepool.sessions.rows import entrys_row
 from ridepool.sessions.stand import Stand
 from ridepool.sessions.state import Change

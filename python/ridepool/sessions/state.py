@@ -3,7 +3,7 @@
 from dataclasses import dataclass, field
 from typing import Optional
 
-from ridepool.report.reader import Reader
+from ridepool.report.reader import Batch, Entry, Reader
 
 ENDED = ("delivered", "cancelled", "expired")
 STATES = ("waiting", "promised", "aboard", *ENDED)
@@ -50,8 +50,8 @@ class Vehicle:
 class Change:
     """What a line changed: an entry or a closed batch, with the rides and vehicles that are different now."""
 
-    entry: Optional[object] = None
-    batch: Optional[object] = None
+    entry: Optional[Entry] = None
+    batch: Optional[Batch] = None
     rides: set = field(default_factory=set)
     vehicles: set = field(default_factory=set)
 
