@@ -218,7 +218,7 @@ def hold_transcript(folder):
     """A transcript that was lost is never taken for that of a new day."""
     if folder.has_lost_transcript():
         raise Fault(f"{folder.transcript_path}: the transcript is missing or empty, and rows.csv has {folder.count_rows()} rows of "
-                    "this day. Put the transcript back, or make one of these rows by ridepool run")
+                    "this day. Put the transcript back: without it the day can't go on")
 
 
 def dispatcher_of(values, folder):
