@@ -11,7 +11,7 @@ from ridepool.report.reader import COUNTED, Entry
 from ridepool.sessions.state import Change, State, Vehicle
 
 COUNTED_REPLIES = {"dropped": "delivered", "cancelled": "cancelled"}
-GRAPH = tuple(f"{word} " for word in COUNTED)
+GRAPH = frozenset(f"{word} "[:3] for word in COUNTED)  # what their lines begin with, and no others
 
 
 class Seconds:
@@ -62,22 +62,27 @@ class Book:
         return change
 
     def lines(self, texts: Sequence[str]) -> List[Change]:
-        """Takes lines of which nobody waits for one, and gives what they changed. Those of graphs and trees are only
-        counted."""
-        found = []
-        for text in texts:
-            if text.startswith(GRAPH):
-                self.skip(text)
-            elif (change := self.line(text)) is not None:
+        """Takes lines of which nobody waits for one, and gives what they changed. Those of graphs and trees are told by their
+        first word, and only counted."""
+        found, begin = [], 0
+        for place in [at for at, text in enumerate(texts) if text[:3] not in GRAPH]:
+            self.skip(texts[begin:place])
+            change = self.line(texts[place])
+            if change is not None:
                 found.append(change)
+            begin = place + 1
+        self.skip(texts[begin:])
         return found
 
-    def skip(self, text: str) -> None:
-        """Counts a line of a graph or of a tree."""
+    def skip(self, texts: Sequence[str]) -> None:
+        """Counts lines of a graph or of a tree."""
         batch = self.state.lines.batch
-        if batch is None:
+        if texts and batch is None:
             raise ValueError("a line of a graph stands in no block")
-        batch.counts[text[:text.index(" ")]] += 1
+        if texts and batch is not None:
+            whole = "\n".join(["", *texts])
+            for word in COUNTED:
+                batch.counts[word] += whole.count(f"\n{word} ")
 
     def count(self, entry: Entry) -> None:
         """Counts who was delivered or cancelled."""

@@ -56,9 +56,9 @@ class Live:
         """Hands on whole lines as they come."""
         rest = b""
         while chunk := await self.child.stdout.read(CHUNK):
-            *lines, rest = (rest + chunk).split(b"\n")
-            if lines:
-                self.on_lines([line.decode("ascii") for line in lines])
+            text, ends, rest = (rest + chunk).rpartition(b"\n")
+            if ends:
+                self.on_lines(text.decode("ascii").split("\n"))
 
     async def read_errors(self):
         """Reads standard error. A refused row is told; the last other line stands in the text of the end."""
