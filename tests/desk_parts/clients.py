@@ -9,8 +9,9 @@ import signal
 import socket
 import time
 
-from desk_parts import shared
-from desk_parts.shared import LINE, LONG, OWN, PATIENCE, TOWN, Desk, audited, desk, fails, folder_for_days, inputs, test, until
+from desk_parts.shared import (
+    LINE, LONG, OWN, PATIENCE, TOWN, audited, desk, fails, folder_for_days, held_desk, inputs, test, until,
+)
 
 
 def one_client(it, number):
@@ -235,32 +236,20 @@ def a_batch_that_was_open_is_planned_first():
             audited(folder, 1)
 
 
-HELD = """#!/bin/sh
-if [ "$1" = resume ]; then while [ ! -e {folder}/go ]; do sleep 0.1; done; fi
-exec {program} "$@"
-"""
-
-
 @test
 def the_port_answers_while_the_day_so_far_is_read():
     with folder_for_days() as folder:
         with desk(*inputs(LINE), folder=folder) as it:
             it.gives("POST", "/rides", {"from": 2, "to": 4})
-        held = folder.parent / "held"
-        held.write_text(HELD.format(folder=folder.parent, program=shared.PROGRAM))
-        held.chmod(0o755)
-        it = Desk(folder, f"program={held}", waits=False)
-        try:
+        with held_desk(folder) as (it, let_go):
             status, health = it.call("GET", "/health")
             assert status == 503 and health["status"] == "starting" and " MB of the day so far" in health["why"], health
             for method, path in (("GET", "/rides"), ("POST", "/rides"), ("GET", "/events"), ("GET", "/network")):
                 status, answer = it.call(method, path, {"from": 1, "to": 2} if method == "POST" else None)
                 assert status == 503 and "is starting" in answer["text"], (path, status, answer)
             assert it.call("GET", "/")[0] == 200
-            (folder.parent / "go").touch()
+            let_go()
             assert it.opened() and [ride["ride"] for ride in it.gives("GET", "/rides")] == [1]
-        finally:
-            it.end()
 
 
 @test
@@ -269,11 +258,8 @@ def a_desk_that_is_closed_while_it_starts_leaves_the_day_as_it_was():
         with desk(*inputs(LINE), folder=folder) as it:
             it.gives("POST", "/rides", {"from": 2, "to": 4})
         whole = (folder / "transcript").read_text()
-        held = folder.parent / "held"
-        held.write_text(HELD.format(folder=folder.parent, program=shared.PROGRAM))
-        held.chmod(0o755)
-        it = Desk(folder, f"program={held}", waits=False)
-        it.end()
+        with held_desk(folder) as (it, _):
+            assert it.end() == 0, it.said
         assert (folder / "transcript").read_text() == whole and not list(folder.glob("*.part"))
 
 

@@ -141,6 +141,28 @@ def desk(*arguments, folder=None, **more):
             shutil.rmtree(place, ignore_errors=True)
 
 
+HELD = """#!/bin/sh
+if [ "$1" = resume ]; then while [ ! -e {folder}/go ]; do sleep 0.1; done; fi
+exec {program} "$@"
+"""
+
+
+@contextlib.contextmanager
+def held_desk(folder):
+    """A desk that goes on with the day in a folder, whose program waits until it is let go. Gives the desk, whose port answers,
+    and the call that lets the program go."""
+    with tempfile.TemporaryDirectory(prefix="desk-test-") as place:
+        held = pathlib.Path(place) / "held"
+        held.write_text(HELD.format(folder=place, program=PROGRAM))
+        held.chmod(0o755)
+        it = Desk(folder, f"program={held}", waits=False)
+        try:
+            assert it.port, it.said
+            yield it, (held.parent / "go").touch
+        finally:
+            it.end()
+
+
 @contextlib.contextmanager
 def folder_for_days():
     """A folder that goes away afterwards."""
