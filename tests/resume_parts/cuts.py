@@ -68,7 +68,7 @@ def city_rows(nodes, batches, seed):
     """Rows of a city, whose batches take a while: requests of a round, its seal, and reports in other lanes beside it."""
     rng, rows, rider = random.Random(seed), [], 0
     for batch in range(batches):
-        for _ in range(40):
+        for _ in range(80):
             rider += 1
             rows.append(f"{batch},0,submit,{rider},{rng.randint(1, nodes)},{rng.randint(1, nodes)},{60 * batch}")
         rows.append(f"{batch},0,seal,{60 * batch + 30},,,")
