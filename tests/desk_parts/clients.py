@@ -9,6 +9,7 @@ import signal
 import socket
 import time
 
+from desk_parts import shared
 from desk_parts.shared import (
     LINE, LONG, OWN, PATIENCE, TOWN, audited, desk, fails, folder_for_days, held_desk, inputs, test, until,
 )
@@ -234,6 +235,51 @@ def a_batch_that_was_open_is_planned_first():
                 it.gives("DELETE", "/rides/1")
             assert path.read_text().startswith(whole[:whole.index("bound ")])
             audited(folder, 1)
+
+
+RELAY = """#!/usr/bin/python3
+import pathlib, signal, subprocess, sys
+call = subprocess.Popen([{program!r}, *sys.argv[1:]], stdout=subprocess.PIPE)
+for line in call.stdout:
+    if sys.argv[1] == "live" and line.endswith(b" closed\\n"):
+        call.kill()
+        pathlib.Path({folder!r}, "holds").touch()
+        signal.pause()
+    sys.stdout.buffer.write(line)
+    sys.stdout.buffer.flush()
+"""
+
+
+def events_of(it, kinds):
+    """The names of events that come, from `state` on, until these have come."""
+    with socket.create_connection(("127.0.0.1", it.port), timeout=PATIENCE) as caller:
+        caller.sendall(b"GET /events HTTP/1.1\r\nhost: 127.0.0.1:%d\r\n\r\n" % it.port)
+        text = b""
+        while not kinds <= set(found := re.findall(rb"event: (\w+)\n", text)):
+            text += caller.recv(65_536)
+    return found
+
+
+@test
+def live_that_is_killed_while_it_plans_goes_on_with_that_plan():
+    with folder_for_days() as folder, concurrent.futures.ThreadPoolExecutor(2) as pool:
+        relay = folder.parent / "relay"
+        relay.write_text(RELAY.format(program=str(shared.PROGRAM), folder=str(folder.parent)))
+        relay.chmod(0o755)
+        with desk(*inputs(LINE), *LONG, f"program={relay}", folder=folder) as it:
+            for ends in ({"from": 2, "to": 4}, {"from": 3, "to": 5}):
+                it.gives("POST", "/rides", ends)
+            events = pool.submit(events_of, it, {b"status", b"notices", b"plan"})
+            until(lambda: it.call("POST", "/seal")[0] in (200, 201, 409) and (folder.parent / "holds").exists(), "a batch that is open")
+            asked = pool.submit(it.call, "DELETE", "/rides/2")
+            until(lambda: it.call("GET", "/health")[1]["open_batch"] == 1, "the batch is seen")
+            os.kill(it.live(), signal.SIGKILL)
+            assert asked.result()[0] in (200, 503), asked.result()
+            until(lambda: it.call("GET", "/health")[0] == 200, "ready again")
+            assert it.gives("GET", "/batches/1")["served"] == 2 and it.gives("GET", "/rides/1")["state"] == "promised"
+            assert events.result()[0] == b"state"
+            it.gives("DELETE", "/rides/1")
+        audited(folder, 1)
 
 
 @test
