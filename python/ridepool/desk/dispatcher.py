@@ -127,15 +127,19 @@ class Dispatcher:
         self.past = Past(Book(self.fleet()), self.folder.begin_anew(), whole)
         self.takes_lines = False
         self.live = Live(self.program, self.call(whole), self.on_lines, self.on_refused, self.on_end, self.on_other)
+        has_come = False
         try:
             await self.live.start()
             self.watched(self.live.reading)
             await self.until(lambda: self.status == "ended" or self.past.is_through)
+            if self.status != "ended":
+                await asyncio.get_running_loop().run_in_executor(None, self.past.files.sync)
+                has_come = True
         finally:
-            if not self.past.is_through:
+            if not has_come:
                 self.past.files.drop()
                 self.past = None
-        if self.status == "ended":
+        if not has_come:
             raise Unavailable(self.why)
 
     def call(self, whole):
@@ -352,6 +356,8 @@ class Dispatcher:
     def go_on_after(self, text):
         """Starts `live` again after an end or a failed start; after three times the desk ends."""
         log.say(text, log.ERROR)
+        if self.stopping:
+            return None
         if self.restarts == MOST_RESTARTS:
             return self.give_up(f"{text}; it was started again {MOST_RESTARTS} times already")
         self.set_status("starting", f"{text}; it is started again")

@@ -28,11 +28,15 @@ class NewFiles:
         self.rows.write(rows)
         self.transcript.write(lines)
 
-    def take_place(self, path: pathlib.Path) -> None:
-        """Takes the place of the old files, once all that was written is on disk."""
+    def sync(self) -> None:
+        """Waits until all that was written is on disk."""
         for file in (self.rows, self.transcript):
             file.flush()
             os.fsync(file.fileno())
+
+    def take_place(self, path: pathlib.Path) -> None:
+        """Takes the place of the old files."""
+        self.sync()
         for name, part in self.parts.items():
             os.replace(part, path / name)
 
