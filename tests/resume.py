@@ -47,7 +47,7 @@ def parts_of(cuts, seed):
     ]
     drawn = {
         "lanes cut anywhere": partial(lanes_cut_anywhere, cuts=cuts, seed=seed),
-        "beside long batches": partial(beside_long_batches, cuts=max(1, cuts // 5), seed=seed),
+        "beside long batches": partial(beside_long_batches, cuts=max(1, cuts // 8), seed=seed),
         "spoiled reports": partial(spoiled_reports, changes=cuts, seed=seed),
         "killed at drawn moments": partial(killed_at_drawn_moments, kills=cuts, seed=seed),
     }

@@ -169,14 +169,17 @@ def the_clock_never_goes_behind_the_transcript():
 
 @test
 def a_little_lead_of_a_vehicle_moves_no_clock():
-    from ridepool.desk.command import last_second
+    from ridepool.desk.book import Book
+    from ridepool.sessions.state import Vehicle
 
-    lines = ["ridepool report 1", "settings", "network nodes=5 arcs=8", "fleet vehicles=1", "round 0",
-             "0 0 seal 100 sealed 1", "1 0 close 1 closed", "2 13 report 1 1 1500 placed",
+    lines = ["ridepool report 1", "settings wait=120", "network nodes=5 arcs=8", "fleet vehicles=1", "round 0",
+             "0 0 seal 100 sealed 1", "1 0 close 1 closed", "batch 1", "row 1 0", "overflow", "end", "2 13 report 1 1 1500 placed",
              "3 13 report 1 1 900000 refused unknown-node"]
-    assert last_second(lines, 700) == 100
-    assert last_second(lines, 599) == 1500
-    assert last_second(lines[:5], 50) == 0
+    book = Book([Vehicle(1, 4, 1, 0)])
+    assert len(book.lines(lines)) == 5 and book.open_batch is None
+    assert book.seconds.last(700, 900) == 100
+    assert book.seconds.last(599, 900) == 1500
+    assert Book([]).seconds.last(50, 900) == 0
 
 
 @test
