@@ -9,6 +9,7 @@ tried.
 
 import sys
 import tempfile
+from concurrent.futures import ThreadPoolExecutor
 from functools import partial
 from pathlib import Path
 
@@ -30,6 +31,9 @@ from resume_parts.refused import (
     words_that_are_wrong,
 )
 from skips import Skipped, last_line
+
+
+AT_ONCE = 3  # parts that run side by side
 
 
 def parts_of(cuts, seed):
@@ -71,7 +75,8 @@ def try_part(name, part, program):
 def main(program, cuts=100, seed=1, *names):
     """Runs all parts, or those that are named. Gives how many failed."""
     parts = parts_of(int(cuts), int(seed))
-    answers = [try_part(name, parts[name], program) for name in names or parts]
+    with ThreadPoolExecutor(AT_ONCE) as pool:  # each part mostly waits for calls
+        answers = list(pool.map(lambda name: try_part(name, parts[name], program), names or parts))
     print(last_line(answers.count(True), answers.count(False), answers.count(None)))
     return answers.count(False)
 

@@ -19,9 +19,8 @@ def lane_of(command: str, fields: Sequence[int]) -> int:
 
 def row_of(lane: int, command: str, fields: Sequence[int], party: int = 1, round_: int = 0) -> str:
     """The row of a command, with its line feed."""
-    numbers = list(map(str, fields)) + [""] * (4 - len(fields))
-    last = str(party) if command == "submit" else ""
-    return ",".join([str(round_), str(lane), command, *numbers, last]) + "\n"
+    empty, last = "," * (4 - len(fields)), party if command == "submit" else ""
+    return f"{round_},{lane},{command},{','.join(map(str, fields))}{empty},{last}\n"
 
 
 def entrys_row(entry: Entry) -> str:
