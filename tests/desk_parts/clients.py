@@ -3,6 +3,7 @@
 import concurrent.futures
 import contextlib
 import http.client
+import json
 import os
 import random
 import re
@@ -147,6 +148,18 @@ def a_day_that_was_cut_behind_any_line_goes_on():
             assert rides == sum(" submit " in line for line in lines[:count]), (count, rides)
 
 
+def last_told(it, act):
+    """Acts once a stream of events has begun. Gives the last event of each kind, once the stream has ended."""
+    with socket.create_connection(("127.0.0.1", it.port), timeout=PATIENCE) as caller:
+        caller.sendall(b"GET /events HTTP/1.1\r\nhost: 127.0.0.1:%d\r\nconnection: close\r\n\r\n" % it.port)
+        text = b""
+        while b"event: state" not in text:
+            text += caller.recv(65_536)
+        act()
+        text += b"".join(iter(lambda: caller.recv(65_536), b""))
+    return {kind.decode(): json.loads(value) for kind, value in re.findall(rb"event: (\w+)\ndata: (.*)\n", text)}
+
+
 @test
 def live_that_is_killed_is_started_again_three_times():
     with desk(*inputs(LINE)) as it:
@@ -159,7 +172,10 @@ def live_that_is_killed_is_started_again_three_times():
             until(lambda: it.call("GET", "/health")[0] == 200, "ready again")
             assert it.live() != old and it.state() == before
             it.gives("POST", "/rides", {"from": 1, "to": 3})
-        os.kill(it.live(), signal.SIGKILL)
+        told = last_told(it, lambda: os.kill(it.live(), signal.SIGKILL))
+        why, trouble = told["status"]["why"], told["trouble"]["trouble"]
+        assert told["status"]["status"] == "ended" and why.endswith("it was started again 3 times already"), told
+        assert [(one["kind"], one["text"]) for one in trouble] == [("hangs", why)], told
         it.child.wait(PATIENCE)
         assert it.end() == 3, it.said
         assert sum("was ended by signal 9" in line for line in it.said) == 5, it.said
