@@ -1,5 +1,6 @@
 """Tests of what the desk says of trouble: late vehicles, riders who expire, what hangs, what dies, the clock."""
 
+import asyncio
 import concurrent.futures
 import json
 import os
@@ -165,6 +166,28 @@ def the_clock_never_goes_behind_the_transcript():
             assert it.gives("GET", "/health")["second"] >= 21_600
             assert any("s behind the day's last second" in line for line in it.said), it.said
             it.gives("POST", "/vehicles/1/position", {"node": 2})
+
+
+@test
+def the_trouble_is_told_at_once_where_the_dispatcher_ended():
+    from ridepool.desk.dispatcher import Clock, Dispatcher
+    from ridepool.desk.folder import Folder
+    from ridepool.desk.trouble import Watch
+
+    async def told(folder):
+        it = Dispatcher(shared.PROGRAM, [], Folder(folder), list, Clock(time.time(), 1), Watch(30, 0))
+        it.set_status("starting", "live ended; it is started again")
+        it.look()
+        queue = it.listen()
+        it.give_up("live ended")
+        return [queue.get_nowait().split("\n")[:2] for _ in range(queue.qsize())]
+
+    with folder_for_days() as folder:
+        found = asyncio.run(told(folder))
+    values = {kind: json.loads(value.partition(": ")[2]) for kind, value in found}
+    assert [kind for kind, _ in found] == ["event: state", "event: status", "event: trouble"], found
+    assert values["event: status"]["why"] == "live ended", found
+    assert [(it["kind"], it["text"]) for it in values["event: trouble"]["trouble"]] == [("hangs", "live ended")], found
 
 
 @test
