@@ -1,8 +1,9 @@
 #!/usr/bin/env bash
 # bench/resume.sh PROGRAM [BATCHES]: how long `resume` takes on a large day, and how much memory, with judge=0 and one worker.
 #
-# A made day of so many batches (2,880) is driven once by `live`, which takes hours. Then its last byte is cut off, and the
-# rest is resumed without a row. GNU time prints seconds and kilobytes.
+# A made day of so many batches (2,880: some 230 MB) is printed once by `live`, which takes some minutes. The riders of a batch
+# are over before the next. Then the last byte is cut off, and the rest is resumed without a row. GNU time prints seconds and
+# kilobytes.
 set -eu -o pipefail
 program=$(readlink -f "$1") batches=${2:-2880}
 folder=$(mktemp -d)
@@ -29,7 +30,7 @@ with open("rows.csv", "w") as out:
     print("round,lane,command,a,b,c,d", file=out)
     rider = 0
     for batch in range(batches):
-        now = 30 * batch
+        now = 330 * batch
         for number in range(1, 501):
             print(f"{batch},0,report,{number},{rng.randint(1, nodes)},{now},", file=out)
         for _ in range(40):

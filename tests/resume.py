@@ -9,6 +9,7 @@ tried.
 
 import sys
 import tempfile
+from concurrent.futures import ThreadPoolExecutor
 from functools import partial
 from pathlib import Path
 
@@ -32,6 +33,9 @@ from resume_parts.refused import (
 from skips import Skipped, last_line
 
 
+AT_ONCE = 3  # parts that run side by side
+
+
 def parts_of(cuts, seed):
     """The parts by their names."""
     parts = [
@@ -47,7 +51,7 @@ def parts_of(cuts, seed):
     ]
     drawn = {
         "lanes cut anywhere": partial(lanes_cut_anywhere, cuts=cuts, seed=seed),
-        "beside long batches": partial(beside_long_batches, cuts=max(1, cuts // 5), seed=seed),
+        "beside long batches": partial(beside_long_batches, cuts=max(1, cuts // 8), seed=seed),
         "spoiled reports": partial(spoiled_reports, changes=cuts, seed=seed),
         "killed at drawn moments": partial(killed_at_drawn_moments, kills=cuts, seed=seed),
     }
@@ -71,7 +75,8 @@ def try_part(name, part, program):
 def main(program, cuts=100, seed=1, *names):
     """Runs all parts, or those that are named. Gives how many failed."""
     parts = parts_of(int(cuts), int(seed))
-    answers = [try_part(name, parts[name], program) for name in names or parts]
+    with ThreadPoolExecutor(AT_ONCE) as pool:  # each part mostly waits for calls
+        answers = list(pool.map(lambda name: try_part(name, parts[name], program), names or parts))
     print(last_line(answers.count(True), answers.count(False), answers.count(None)))
     return answers.count(False)
 

@@ -3,6 +3,7 @@
 import concurrent.futures
 import contextlib
 import http.client
+import json
 import os
 import random
 import re
@@ -10,7 +11,10 @@ import signal
 import socket
 import time
 
-from desk_parts.shared import LINE, OWN, PATIENCE, TOWN, audited, desk, fails, folder_for_days, inputs, test, until
+from desk_parts import shared
+from desk_parts.shared import (
+    LINE, LONG, OWN, PATIENCE, TOWN, audited, desk, fails, folder_for_days, held_desk, inputs, test, until,
+)
 
 
 def one_client(it, number):
@@ -144,6 +148,18 @@ def a_day_that_was_cut_behind_any_line_goes_on():
             assert rides == sum(" submit " in line for line in lines[:count]), (count, rides)
 
 
+def last_told(it, act):
+    """Acts once a stream of events has begun. Gives the last event of each kind, once the stream has ended."""
+    with socket.create_connection(("127.0.0.1", it.port), timeout=PATIENCE) as caller:
+        caller.sendall(b"GET /events HTTP/1.1\r\nhost: 127.0.0.1:%d\r\nconnection: close\r\n\r\n" % it.port)
+        text = b""
+        while b"event: state" not in text:
+            text += caller.recv(65_536)
+        act()
+        text += b"".join(iter(lambda: caller.recv(65_536), b""))
+    return {kind.decode(): json.loads(value) for kind, value in re.findall(rb"event: (\w+)\ndata: (.*)\n", text)}
+
+
 @test
 def live_that_is_killed_is_started_again_three_times():
     with desk(*inputs(LINE)) as it:
@@ -156,7 +172,10 @@ def live_that_is_killed_is_started_again_three_times():
             until(lambda: it.call("GET", "/health")[0] == 200, "ready again")
             assert it.live() != old and it.state() == before
             it.gives("POST", "/rides", {"from": 1, "to": 3})
-        os.kill(it.live(), signal.SIGKILL)
+        told = last_told(it, lambda: os.kill(it.live(), signal.SIGKILL))
+        why, trouble = told["status"]["why"], told["trouble"]["trouble"]
+        assert told["status"]["status"] == "ended" and why.endswith("it was started again 3 times already"), told
+        assert [(one["kind"], one["text"]) for one in trouble] == [("hangs", why)], told
         it.child.wait(PATIENCE)
         assert it.end() == 3, it.said
         assert sum("was ended by signal 9" in line for line in it.said) == 5, it.said
@@ -192,9 +211,9 @@ def a_day_goes_on_with_its_own_inputs_and_settings():
             fails("another desk keeps this day", folder=folder)
         assert (folder / "transcript").read_text().endswith("done 1\n")
         fails("the day there has other settings: wait=300", "wait=200", folder=folder)
-        fails("Of them workers and every can be changed", "pairs=10", folder=folder)
+        fails("workers, times and every can be changed, no others", "pairs=10", folder=folder)
         fails("has another fleet", f"fleet={TOWN}/fleet.csv", folder=folder)
-        with desk(*inputs(LINE), "wait=300", "every=40", "workers=2", folder=folder) as it:
+        with desk(*inputs(LINE), "wait=300", "every=40", "workers=2", "times=labels", folder=folder) as it:
             assert len(it.gives("GET", "/rides")) == 1
         assert '"every": 40' in (folder / "day.json").read_text()
         with open(folder / "transcript", "a", encoding="ascii") as file:
@@ -207,40 +226,121 @@ def a_day_goes_on_with_its_own_inputs_and_settings():
 
 
 @test
-def other_replies_than_before_are_asked_about():
+def a_transcript_that_is_spoiled_is_refused_and_stays():
     with folder_for_days() as folder:
         with desk(*inputs(LINE), folder=folder) as it:
             it.gives("POST", "/rides", {"from": 2, "to": 4})
             it.plan()
         path = folder / "transcript"
-        spoiled = path.read_text().replace("trip 1 ", "trip 2 ")
-        line = spoiled[:spoiled.index("trip 2 ")].count("\n") + 1
-        path.write_text(spoiled)
-        said = fails("the day was left as it is", folder=folder, answer="no")
-        assert any(f"differ at line {line}: it was `trip 2 " in text for text in said), said
-        assert path.read_text() == spoiled
-        with desk(folder=folder, answer="yes") as it:
+        whole = path.read_text()
+        for spoiled, fault in [
+            (whole.replace(" accepted", " refused same-place"), "wrong entry"),
+            (whole.replace("batch 1", "batch 2"), "wrong batch"),
+            (whole.replace("trip 1 ", "trap 1 "), "bad form"),
+        ]:
+            path.write_text(spoiled)
+            fails(f"ridepool: report: {fault} at line ", folder=folder)
+            assert path.read_text() == spoiled and not list(folder.glob("*.part"))
+        path.write_text(whole)
+        with desk(folder=folder) as it:
             assert it.gives("GET", "/rides/1")["state"] == "promised"
-        assert (folder / "transcript.1").read_text() == spoiled and "trip 1 " in path.read_text()
 
 
 @test
-def rows_among_a_batch_are_given_with_its_seal():
-    from ridepool.desk import replay
+def a_batch_that_was_open_is_planned_first():
+    with folder_for_days() as folder:
+        with desk(*inputs(LINE), *LONG, folder=folder) as it:
+            it.gives("POST", "/rides", {"from": 2, "to": 4})
+            it.plan()
+        path = folder / "transcript"
+        whole = path.read_text()
+        for torn in (whole[:whole.index("trip ") + 7], whole[:whole.index(" closed")], whole[:whole.index(" sealed 1\n") + 10]):
+            path.write_text(torn)
+            with desk(folder=folder) as it:
+                assert it.gives("GET", "/rides/1")["state"] == "promised" and it.gives("GET", "/batches/1")["served"] == 1
+                it.gives("DELETE", "/rides/1")
+            assert path.read_text().startswith(whole[:whole.index("bound ")])
+            audited(folder, 1)
 
-    kept = ["ridepool report 1", "settings", "network nodes=5 arcs=8", "fleet vehicles=1", "round 0",
-            "0 2 submit 1 2 4 0 accepted", "1 0 seal 0 sealed 1", "2 3 submit 2 2 4 0 accepted", "3 0 close 1 closed",
-            "batch 1", "cost 5", "end", "4 13 report 1 1 0 placed"]
-    first, seal, other, report = (f"0,{it}\n" for it in (
-        "2,submit,1,2,4,0,1", "0,seal,0,,,,", "3,submit,2,2,4,0,1", "13,report,1,1,0,,"))
-    assert replay.pieces(kept) == [(first, None), (seal + other, 1), (report, None)]
-    later = kept[:7] + ["2 0 close 1 closed", "batch 1", "cost 5", "end", "3 3 submit 2 2 4 0 accepted", *kept[12:]]
-    assert replay.difference(kept, later) is None and replay.difference(later, kept) is None
-    assert replay.difference(kept[:10], later) is None
-    found = replay.difference(kept, [line.replace("cost 5", "cost 6") for line in later])
-    assert (found.line, found.kept, found.new) == (11, "cost 5", "cost 6"), found
-    found = replay.difference(kept, later[:-1])
-    assert (found.line, found.new) == (13, "nothing"), found
+
+RELAY = """#!/usr/bin/python3
+import pathlib, signal, subprocess, sys
+call = subprocess.Popen([{program!r}, *sys.argv[1:]], stdout=subprocess.PIPE)
+for line in call.stdout:
+    if sys.argv[1] == "live" and line.endswith(b" closed\\n"):
+        call.kill()
+        pathlib.Path({folder!r}, "holds").touch()
+        signal.pause()
+    sys.stdout.buffer.write(line)
+    sys.stdout.buffer.flush()
+"""
+
+
+def events_of(it, kinds):
+    """The names of events that come, from `state` on, until these have come."""
+    with socket.create_connection(("127.0.0.1", it.port), timeout=PATIENCE) as caller:
+        caller.sendall(b"GET /events HTTP/1.1\r\nhost: 127.0.0.1:%d\r\n\r\n" % it.port)
+        text = b""
+        while not kinds <= set(found := re.findall(rb"event: (\w+)\n", text)):
+            text += caller.recv(65_536)
+    return found
+
+
+@test
+def live_that_is_killed_while_it_plans_goes_on_with_that_plan():
+    with folder_for_days() as folder, concurrent.futures.ThreadPoolExecutor(2) as pool:
+        relay = folder.parent / "relay"
+        relay.write_text(RELAY.format(program=str(shared.PROGRAM), folder=str(folder.parent)))
+        relay.chmod(0o755)
+        with desk(*inputs(LINE), *LONG, f"program={relay}", folder=folder) as it:
+            for ends in ({"from": 2, "to": 4}, {"from": 3, "to": 5}):
+                it.gives("POST", "/rides", ends)
+            events = pool.submit(events_of, it, {b"status", b"notices", b"plan"})
+            until(lambda: it.call("POST", "/seal")[0] in (200, 201, 409) and (folder.parent / "holds").exists(), "a batch that is open")
+            asked = pool.submit(it.call, "DELETE", "/rides/2")
+            until(lambda: it.call("GET", "/health")[1]["open_batch"] == 1, "the batch is seen")
+            os.kill(it.live(), signal.SIGKILL)
+            assert asked.result()[0] in (200, 503), asked.result()
+            until(lambda: it.call("GET", "/health")[0] == 200, "ready again")
+            assert it.gives("GET", "/batches/1")["served"] == 2 and it.gives("GET", "/rides/1")["state"] == "promised"
+            assert events.result()[0] == b"state"
+            it.gives("DELETE", "/rides/1")
+        audited(folder, 1)
+
+
+@test
+def the_port_answers_while_the_day_so_far_is_read():
+    with folder_for_days() as folder:
+        with desk(*inputs(LINE), folder=folder) as it:
+            it.gives("POST", "/rides", {"from": 2, "to": 4})
+        with held_desk(folder) as (it, let_go):
+            status, health = it.call("GET", "/health")
+            assert status == 503 and health["status"] == "starting" and " MB of the day so far" in health["why"], health
+            for method, path in (("GET", "/rides"), ("POST", "/rides"), ("GET", "/events"), ("GET", "/network")):
+                status, answer = it.call(method, path, {"from": 1, "to": 2} if method == "POST" else None)
+                assert status == 503 and "is starting" in answer["text"], (path, status, answer)
+            assert it.call("GET", "/")[0] == 200
+            let_go()
+            assert it.opened() and [ride["ride"] for ride in it.gives("GET", "/rides")] == [1]
+
+
+@test
+def a_desk_that_is_closed_while_it_starts_leaves_the_day_as_it_was():
+    with folder_for_days() as folder:
+        with desk(*inputs(LINE), folder=folder) as it:
+            it.gives("POST", "/rides", {"from": 2, "to": 4})
+        whole = (folder / "transcript").read_text()
+        with held_desk(folder) as (it, _):
+            assert it.end() == 0, it.said
+        assert (folder / "transcript").read_text() == whole and not list(folder.glob("*.part"))
+
+
+@test
+def a_day_without_trees_says_that_it_cannot_go_on():
+    with folder_for_days() as folder:
+        with desk(*inputs(LINE), "proof=0", folder=folder) as it:
+            assert any("this day can't go on once" in line for line in it.said), it.said
+        fails("the day there can't go on: its report has no trees", folder=folder)
 
 
 @test

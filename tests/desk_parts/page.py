@@ -8,7 +8,7 @@ import shutil
 import signal
 import time
 
-from desk_parts.shared import LINE, LONG, PATIENCE, TOWN, desk, folder_for_days, inputs, test, until
+from desk_parts.shared import LINE, LONG, PATIENCE, TOWN, desk, folder_for_days, held_desk, inputs, test, until
 from skips import Skipped
 
 
@@ -174,6 +174,19 @@ def the_page_says_when_live_or_the_desk_ends():
             until(lambda: "Connection lost" in text_of(browser, "#status-text"), "the loss is shown")
             assert "3 times already" in text_of(browser, "#status-text")
             browser.get_log("browser")
+
+
+@test
+def the_page_says_that_the_desk_starts():
+    with folder_for_days() as folder:
+        with desk(*inputs(LINE), folder=folder) as it:
+            it.gives("POST", "/rides", {"from": 2, "to": 4})
+        with held_desk(folder) as (it, let_go), opened(f"http://127.0.0.1:{it.port}/", 390, 844) as browser:
+            until(lambda: "MB of the day so far" in text_of(browser, "#status-text"), "the start is shown")
+            fits(browser)
+            let_go()
+            until(lambda: text_of(browser, "#status-text").startswith("Ready"), "the page is ready")
+            until(lambda: "1" in text_of(browser, "#rides .list"), "the ride is shown")
 
 
 @test

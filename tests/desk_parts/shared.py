@@ -40,9 +40,10 @@ def until(holds, what, patience=PATIENCE):
 
 
 class Desk:
-    """A started desk. Its port is a free one; batches are sealed by calls alone, if `every` isn't given."""
+    """A started desk, of which the day so far is read; where it isn't waited for, its port answers. The port is a free one;
+    batches are sealed by calls alone, if `every` isn't given."""
 
-    def __init__(self, folder, *arguments, answer=None, most_bytes=None, tool=TOOLS / "desk.py", program=True):
+    def __init__(self, folder, *arguments, most_bytes=None, tool=TOOLS / "desk.py", program=True, waits=True):
         extra = ["port=0", *([f"program={PROGRAM}"] if program else [])]
         if not {"demo", "every=0"} & set(arguments) and not pathlib.Path(folder, "day.json").exists():
             extra.append("every=0")
@@ -51,17 +52,15 @@ class Desk:
             [sys.executable, str(tool), *arguments, f"day={folder}", *extra],
             stdin=subprocess.PIPE, stderr=subprocess.PIPE, text=True,
             preexec_fn=most_bytes and (lambda: resource.setrlimit(resource.RLIMIT_FSIZE, (most_bytes, most_bytes))))
-        if answer is not None:
-            self.child.stdin.write(answer + "\n")
         self.child.stdin.close()
         self.folder, self.said, self.token = pathlib.Path(folder), [], None
-        self.port = self.opened()
+        self.port = self.opened("keeps its day" if waits else "answers")
 
-    def opened(self):
+    def opened(self, what="keeps its day"):
         """The port, which the desk says when it is open."""
         while line := self.child.stderr.readline():
             self.said.append(line.rstrip("\n"))
-            found = re.search(r"http://.*:(\d+) keeps its day", line)
+            found = re.search(rf"http://.*:(\d+) {what}", line)
             if found:
                 return int(found.group(1))
         self.child.wait()
@@ -140,6 +139,28 @@ def desk(*arguments, folder=None, **more):
             it.end()
         if not folder:
             shutil.rmtree(place, ignore_errors=True)
+
+
+HELD = """#!/bin/sh
+if [ "$1" = resume ]; then while [ ! -e {folder}/go ]; do sleep 0.1; done; fi
+exec {program} "$@"
+"""
+
+
+@contextlib.contextmanager
+def held_desk(folder):
+    """A desk that goes on with the day in a folder, whose program waits until it is let go. Gives the desk, whose port answers,
+    and the call that lets the program go."""
+    with tempfile.TemporaryDirectory(prefix="desk-test-") as place:
+        held = pathlib.Path(place) / "held"
+        held.write_text(HELD.format(folder=place, program=PROGRAM))
+        held.chmod(0o755)
+        it = Desk(folder, f"program={held}", waits=False)
+        try:
+            assert it.port, it.said
+            yield it, (held.parent / "go").touch
+        finally:
+            it.end()
 
 
 @contextlib.contextmanager

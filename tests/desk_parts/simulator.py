@@ -41,11 +41,15 @@ def a_simulations_taxis_are_dispatched():
 
 def confirmed(place):
     """The simulation's transcript must be that of a run of its rows."""
-    from ridepool.sessions import rows
+    from ridepool.sessions.rows import HEADER, entrys_row
+    from ridepool.sessions.state import Lines
 
-    lines = (place / "transcript").read_text().splitlines()
-    text = rows.rows_of(lines)
+    lines, reader, entries = (place / "transcript").read_text().splitlines(), Lines(), []
+    for line in lines:
+        reader.line(line)
+        entries += [reader.last_entry] if len(reader.first) == 4 and reader.last_entry is not None else []
+    text = "".join(entrys_row(it) for it in entries if it.command != "close")
     assert text.count("dropoff") == text.count("pickup") == 8, text
-    (place / "rows.csv").write_text(rows.HEADER + "\n" + text)
+    (place / "rows.csv").write_text(HEADER + "\n" + text)
     shutil.copyfile(place / "town" / "network.csv", place / "network.csv")
     audited(place, sum(line.startswith("batch ") for line in lines))

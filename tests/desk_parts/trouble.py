@@ -1,5 +1,6 @@
 """Tests of what the desk says of trouble: late vehicles, riders who expire, what hangs, what dies, the clock."""
 
+import asyncio
 import concurrent.futures
 import json
 import os
@@ -168,15 +169,40 @@ def the_clock_never_goes_behind_the_transcript():
 
 
 @test
-def a_little_lead_of_a_vehicle_moves_no_clock():
-    from ridepool.desk.command import last_second
+def the_trouble_is_told_at_once_where_the_dispatcher_ended():
+    from ridepool.desk.dispatcher import Clock, Dispatcher
+    from ridepool.desk.folder import Folder
+    from ridepool.desk.trouble import Watch
 
-    lines = ["ridepool report 1", "settings", "network nodes=5 arcs=8", "fleet vehicles=1", "round 0",
-             "0 0 seal 100 sealed 1", "1 0 close 1 closed", "2 13 report 1 1 1500 placed",
+    async def told(folder):
+        it = Dispatcher(shared.PROGRAM, [], Folder(folder), list, Clock(time.time(), 1), Watch(30, 0))
+        it.set_status("starting", "live ended; it is started again")
+        it.look()
+        queue = it.listen()
+        it.give_up("live ended")
+        return [queue.get_nowait().split("\n")[:2] for _ in range(queue.qsize())]
+
+    with folder_for_days() as folder:
+        found = asyncio.run(told(folder))
+    values = {kind: json.loads(value.partition(": ")[2]) for kind, value in found}
+    assert [kind for kind, _ in found] == ["event: state", "event: status", "event: trouble"], found
+    assert values["event: status"]["why"] == "live ended", found
+    assert [(it["kind"], it["text"]) for it in values["event: trouble"]["trouble"]] == [("hangs", "live ended")], found
+
+
+@test
+def a_little_lead_of_a_vehicle_moves_no_clock():
+    from ridepool.desk.book import Book
+    from ridepool.sessions.state import Vehicle
+
+    lines = ["ridepool report 1", "settings wait=120", "network nodes=5 arcs=8", "fleet vehicles=1", "round 0",
+             "0 0 seal 100 sealed 1", "1 0 close 1 closed", "batch 1", "row 1 0", "overflow", "end", "2 13 report 1 1 1500 placed",
              "3 13 report 1 1 900000 refused unknown-node"]
-    assert last_second(lines, 700) == 100
-    assert last_second(lines, 599) == 1500
-    assert last_second(lines[:5], 50) == 0
+    book = Book([Vehicle(1, 4, 1, 0)])
+    assert len(book.lines(lines)) == 5 and book.open_batch is None
+    assert book.seconds.last(700, 900) == 100
+    assert book.seconds.last(599, 900) == 1500
+    assert Book([]).seconds.last(50, 900) == 0
 
 
 @test

@@ -144,18 +144,23 @@ def test_a_refused_rider_is_given_to_another(monkeypatch):
 
 
 def test_a_program_that_is_killed_goes_on(city, driven, monkeypatch):
-    """The program of a fleet is killed in the middle of the day: the fleet is told its rows again, and nothing is lost."""
-    said, batch = [], Here.batch
+    """The program of a fleet is killed in the middle of the day: the fleet goes on behind its transcript, no batch is
+    planned again, and nothing is lost."""
+    said, stands, batch = [], set(), Here.batch
 
     def killing(self, at, told):
+        session = self.fleets[at].policy.session
         if at == 1 and told.second == 150 and not said:
-            self.fleets[at].policy.session.child.kill()
-            self.fleets[at].policy.session.child.wait()
+            session.child.kill()
+            session.child.wait()
+        stands.add((at, getattr(session, "stand", None)))
         return batch(self, at, told)
 
     monkeypatch.setattr(Here, "batch", killing)
     again = rp.drive_fleets(*city, SETTINGS, say=said.append)
     assert again.taken_up == 1 and len(said) == 1 and said[0].endswith("it goes on elsewhere from its 4 batches")
+    (at, stand), = (it for it in stands if it[1] is not None)
+    assert at == 1 and stand.open is None and stand.entries > 4 and again.days[1].text.count("\nbatch ") == 10
     pandas.testing.assert_frame_equal(again.riders, driven.riders)
 
 

@@ -55,11 +55,20 @@ def head_of(report):
     return sum(len(line) + 1 for line in report.split(b"\n")[:4])
 
 
+def answered_beside(report):
+    """How many rows were answered while a batch was open."""
+    beside, is_open = 0, False
+    for line in report.decode().split("\n"):
+        is_open = line.split(" ")[-2:-1] == ["sealed"] or is_open and not line.endswith(" closed")
+        beside += is_open and line[:1].isdigit() and " seal " not in line
+    return beside
+
+
 def city_rows(nodes, batches, seed):
     """Rows of a city, whose batches take a while: requests of a round, its seal, and reports in other lanes beside it."""
     rng, rows, rider = random.Random(seed), [], 0
     for batch in range(batches):
-        for _ in range(40):
+        for _ in range(80):
             rider += 1
             rows.append(f"{batch},0,submit,{rider},{rng.randint(1, nodes)},{rng.randint(1, nodes)},{60 * batch}")
         rows.append(f"{batch},0,seal,{60 * batch + 30},,,")
@@ -70,6 +79,7 @@ def city_rows(nodes, batches, seed):
 def beside_long_batches(program, folder, cuts, seed):
     """Batches of a city, with rows of fifteen lanes beside them, cut at drawn bytes: half of the cuts lie before a close."""
     day, rng = Day(program, folder, city_rows(made_city(folder), 3, seed), "wait=300", "delay=400"), random.Random(seed)
+    need(answered_beside(day.report) > 50, f"only {answered_beside(day.report)} rows are answered beside open batches")
     head, closes = head_of(day.report), [place for place in range(len(day.report)) if day.report.startswith(b" closed\n", place)]
     for number in range(cuts):
         if number % 2:
@@ -83,14 +93,15 @@ def reports_of_all_kinds(program, folder):
     """Overflow, lapsed promises, dwell and parties: each report cut behind each of its lines, and within the last of them."""
     street(folder)
     parties = ["0,0,submit,1,2,4,0,2", "0,0,submit,2,3,5,0,1", "0,0,seal,10,,,,", "1,0,report,1,5,600,,", "1,0,seal,700,,,,", "2,0,cancel,1,,,,"]
-    for rows, words in [
-        (EXAMPLE, ["pairs=1"]),
-        (EXAMPLE, ["dwell=30"]),
-        (EXAMPLE, ["trip=1", "times=labels"]),
-        (parties, []),
-        (parties, ["dwell=20", "wait=7200", "delay=7200"]),
+    for rows, words, told in [
+        (EXAMPLE, ["pairs=1"], b"\noverflow"),
+        (EXAMPLE, ["dwell=30"], b" dwell=30\n"),
+        (EXAMPLE, ["trip=1", "times=labels"], b"\nout "),
+        (parties, [], b"\nexpired "),
+        (parties, ["dwell=20", "wait=7200", "delay=7200"], b"\nlapsed "),
     ]:
         day = Day(program, folder, rows, *words)
+        need(told in day.report, f"the report hasn't {told!r}")
         ends = [place + 1 for place, byte in enumerate(day.report) if byte == 10]
         for end in ends[3:]:
             for count in end, end + 2:

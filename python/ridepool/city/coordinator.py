@@ -81,6 +81,7 @@ class Coordinator:
         self.standing = Standing(net, fleets)
         self.told: "list[list[Batch]]" = [[] for _ in fleets]
         self.sealed: "list[list[Sealed]]" = [[] for _ in fleets]
+        self.texts: "list[list[str]]" = [[] for _ in fleets]
         self.riders: Dict[int, Asked] = {}
         self.taken_up = 0
         self.together = Together(len(self.fleets))
@@ -94,7 +95,8 @@ class Coordinator:
                 last = bisect_left(seconds, seal)
                 self.batch(asks[first:last], seal)
                 first = last
-            return [str(text) for text in self.together.all(self.close, numbers)]
+            rests = self.together.all(self.close, numbers)
+            return ["".join([*texts, rest]) for texts, rest in zip(self.texts, rests)]
         finally:
             self.hands.end()
             self.together.close()
@@ -112,7 +114,8 @@ class Coordinator:
         sealed = self.together.all(self.one_batch, range(len(self.fleets)), told)
         for at, (batch, found) in enumerate(zip(told, sealed)):
             self.told[at].append(batch)
-            self.sealed[at].append(found)
+            self.texts[at].append(found.text)
+            self.sealed[at].append(found._replace(text=""))
             self.take(found)
         self.standing.take(sealed)
 
@@ -148,7 +151,7 @@ class Coordinator:
             self.riders[number].is_left = False
 
     def one_batch(self, at: int, told: Batch) -> Sealed:
-        """A fleet's batch. Where its worker ends the fleet goes on elsewhere, with the same plans as before."""
+        """A fleet's batch. Where its worker ends the fleet goes on elsewhere, behind the plans that it had."""
         while True:
             try:
                 return self.hands.batch(at, told)
@@ -163,16 +166,16 @@ class Coordinator:
                 raise ProgramFailed(f"fleet {at + 1} can't go on: {fault}")
             self.say(f"fleet {at + 1}: {fault}; it goes on elsewhere from its {len(self.told[at])} batches")
             try:
-                again = self.hands.go_on(at, self.fleets[at], self.told[at])
+                again = self.hands.go_on(at, self.fleets[at], self.told[at], "".join(self.texts[at]))
             except Died as another:
                 fault = another
                 continue
             if [it.plan for it in again] != [it.plan for it in self.sealed[at]]:
-                raise ProgramFailed(f"fleet {at + 1} was planned otherwise when it was told its rows again")
+                raise ProgramFailed(f"fleet {at + 1} came to something else behind its own transcript")
             return
 
     def close(self, at: int) -> str:
-        """The report of a fleet."""
+        """The last part of a fleet's report."""
         while True:
             try:
                 return self.hands.close(at)

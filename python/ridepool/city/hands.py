@@ -22,7 +22,8 @@ class Died(Exception):
 
 
 class Hands:
-    """What plans the fleets. `told` are the batches of a fleet that came before, which it is told again elsewhere."""
+    """What plans the fleets. `told` are the batches of a fleet that came before, and `transcript` what its session had printed
+    with the last of them: behind it the fleet goes on elsewhere."""
 
     def begin(self, at: int, fleet: Fleet) -> None:
         """A fleet begins its day."""
@@ -32,12 +33,12 @@ class Hands:
         """What comes of a fleet's batch. Died where it can't be known."""
         raise NotImplementedError
 
-    def go_on(self, at: int, fleet: Fleet, told: Sequence[Batch]) -> List[Sealed]:
+    def go_on(self, at: int, fleet: Fleet, told: Sequence[Batch], transcript: str) -> List[Sealed]:
         """A fleet goes on elsewhere."""
         raise NotImplementedError
 
     def close(self, at: int) -> str:
-        """A fleet ends its day. Gives its report."""
+        """A fleet ends its day. Gives the last part of its report."""
         raise NotImplementedError
 
     def end(self) -> None:
@@ -63,10 +64,13 @@ class Here(Hands):
         except ProgramFailed as fault:
             raise Died(str(fault)) from None
 
-    def go_on(self, at: int, fleet: Fleet, told: Sequence[Batch]) -> List[Sealed]:
+    def go_on(self, at: int, fleet: Fleet, told: Sequence[Batch], transcript: str) -> List[Sealed]:
         """The fleet's program is started again."""
         self.fleets[at].kill()
-        self.fleets[at], sealed = taken_up(self.net, fleet, self.settings, self.program, told)
+        try:
+            self.fleets[at], sealed = taken_up(self.net, fleet, self.settings, self.program, told, transcript)
+        except ProgramFailed as fault:
+            raise Died(str(fault)) from None
         return sealed
 
     def close(self, at: int) -> str:
@@ -88,9 +92,9 @@ class FleetThere:
         self.given = net, fleet, settings, os.path.join(TOWNS[name], "ridepool")
         self.one: Optional[OneFleet] = None
 
-    def begin(self, told: Sequence[Batch]) -> List[Sealed]:
+    def begin(self, told: Sequence[Batch], transcript: str) -> List[Sealed]:
         """Begins the day, or goes on with it where batches were told elsewhere before."""
-        self.one, sealed = taken_up(*self.given, told)
+        self.one, sealed = taken_up(*self.given, told, transcript)
         return sealed
 
     def batch(self, told: Batch) -> Sealed:
@@ -122,9 +126,9 @@ class There(Hands):
 
     def begin(self, at: int, fleet: Fleet) -> None:
         """A fleet begins on the worker that has the fewest."""
-        self.place(at, fleet, ())
+        self.place(at, fleet, (), "")
 
-    def place(self, at: int, fleet: Fleet, told: Sequence[Batch]) -> List[Sealed]:
+    def place(self, at: int, fleet: Fleet, told: Sequence[Batch], transcript: str) -> List[Sealed]:
         """Puts a fleet on a worker."""
         with self.lock:
             there = self.there()
@@ -135,7 +139,7 @@ class There(Hands):
             FleetThere, self.workers.name, self.net, fleet, self.settings, actor=True, workers=[home],
             allow_other_workers=False, pure=False)
         self.actors[at] = self.waited(at, future)
-        return list(self.waited(at, self.actors[at].begin(list(told))))
+        return list(self.waited(at, self.actors[at].begin(list(told), transcript)))
 
     def there(self) -> Set[str]:
         """The workers that are fit."""
@@ -163,10 +167,10 @@ class There(Hands):
             raise Died(str(lost)) from None
         return Sealed(*self.waited(at, call))
 
-    def go_on(self, at: int, fleet: Fleet, told: Sequence[Batch]) -> List[Sealed]:
+    def go_on(self, at: int, fleet: Fleet, told: Sequence[Batch], transcript: str) -> List[Sealed]:
         """The fleet goes on on another worker."""
         self.futures[at].cancel()
-        return [Sealed(*it) for it in self.place(at, fleet, told)]
+        return [Sealed(*it) for it in self.place(at, fleet, told, transcript)]
 
     def close(self, at: int) -> str:
         """A fleet ends its day."""

@@ -10,7 +10,7 @@ import socket
 import sys
 import tempfile
 import time
-from typing import TYPE_CHECKING, Any, Coroutine, Dict, Iterable, List, Mapping, Optional, Sequence, Set, Tuple
+from typing import TYPE_CHECKING, Any, Awaitable, Callable, Coroutine, Dict, Iterable, List, Mapping, Optional, Sequence, Set, Tuple
 
 from ridepool import program
 from ridepool.desk import log
@@ -21,6 +21,8 @@ if TYPE_CHECKING:  # what these need may be missing until the desk is opened
     import uvicorn
     from starlette.types import ASGIApp
 
+    from ridepool.desk.book import Book
+    from ridepool.desk.calls.shared import Desk
     from ridepool.desk.dispatcher import Clock, Dispatcher
     from ridepool.desk.folder import Folder
     from ridepool.desk.tokens import Tokens
@@ -43,13 +45,15 @@ INPUTS = ("network", "nodes", "fleet")
 WORDS = SETTINGS + INPUTS + ("day", "port", "host", "name", "token", "tokens", "hook", "secret", "tiles", "every", "silent",
                              "speed", "far", "drivers", "riders", "seed", "program")
 TOKEN_WORDS = ("tokens", "role", "vehicle", "ride", "withdraw")
-FREE = ("workers", "every")  # what may change from opening to opening, since no reply depends on it
+FREE = ("workers", "times", "every")  # what may change from opening to opening: all else stands in the transcript
 FIXED = (*(it for it in SETTINGS if it not in FREE), "speed")
 STATUS_ENDED = 3
 FAREWELL = 1.0  # real seconds in which callers still hear why the desk ends
 MOST_LEAD = 900  # seconds that a position or a stop may lie ahead
 ACCESS = "access.log"  # in the day's folder
 Street = Tuple[int, int, int]
+Clients = List[Coroutine[Any, Any, None]]  # what goes on by itself
+Begin = Callable[[], Awaitable[Clients]]
 LOOPBACK = ("127.0.0.1", "localhost", "::1")
 DEMO = {"every": "30", "speed": "10", "drivers": "1", "riders": "1", "wait": "420", "delay": "600"}
 
@@ -66,7 +70,9 @@ def with_demo(plain: Sequence[str], values: Dict[str, str]) -> Dict[str, str]:
 
 
 def description_of(values: Mapping[str, str]) -> Dict[str, Any]:
-    """What makes a day what it is, as its folder keeps it."""
+    """What makes a day what it is, as its folder keeps it. Its report has trees where nothing else is said: without them the
+    day can't go on."""
+    values = {"proof": "1", **values}
     return {
         "settings": [f"{key}={values[key]}" for key in SETTINGS if key in values],
         "speed": number(values, "speed", 1, 100, 1),
@@ -89,6 +95,8 @@ def day_of(values: Mapping[str, str]) -> Folder:
         folder.begin(values, description_of(values))
         log.say(f"a day begins; {', '.join(FREE)} may be others when it is opened again. All other settings are those of "
                 "the whole day, since its report has one line of settings")
+        if described(folder).get("proof") == "0":
+            log.say("with proof=0 the report has no trees, so this day can't go on once the desk or its program has ended", log.WARNING)
         return folder
     hold_inputs(folder, given, values)
     if changed := folder.changed_inputs():
@@ -98,12 +106,14 @@ def day_of(values: Mapping[str, str]) -> Folder:
 
 
 def hold_settings(folder: Folder, values: Mapping[str, str]) -> None:
-    """A day goes on with its own settings but for those on which no reply depends: they are taken as given."""
+    """A day goes on with its own settings but for those that its transcript doesn't have: they are taken as given."""
     before = folder.description
+    if "proof=1" not in before["settings"]:
+        raise Fault(f"{folder.path}: the day there can't go on: its report has no trees, since it began without proof=1")
     now = {**before, **description_of({**described(folder), **values}), "began": before["began"]}
     if fixed(now) != fixed(before):
-        raise Fault(f"{folder.path}: the day there has other settings: {' '.join(words_of(before))}. "
-                    f"Of them {' and '.join(FREE)} can be changed")
+        raise Fault(f"{folder.path}: the day there has other settings: {' '.join(words_of(before))}. They stand in its "
+                    f"transcript, with which the day goes on. {', '.join(FREE[:-1])} and {FREE[-1]} can be changed, no others")
     if now != before:
         folder.describe(now)
 
@@ -152,28 +162,18 @@ def map_of(folder: Folder, far: int) -> Tuple[Places, List[Street]]:
     return places, streets
 
 
-def last_second(kept: Sequence[str], now: float) -> int:
-    """The second that the day's clock had reached, by its transcript. What vehicles did may lie a little ahead of the
-    clock, and what is told of those out of service by the longest wait; where it is further ahead, the clock was there, too."""
-    from ridepool.sessions.rows import entries_of
-
-    lead = MOST_LEAD + max((int(word[5:]) for line in kept[1:2] for word in line.split() if word.startswith("wait=")), default=0)
-
-    entries = [it for it in entries_of(kept) if not it.reply.startswith("refused ")]
-    sealed = max((it.fields[0] for it in entries if it.command == "seal"), default=0)
-    entered = max((it.fields[-1] for it in entries if it.command in ("report", "pickup", "dropoff")), default=0)
-    return max(sealed, entered) if entered > max(sealed, now) + lead else sealed
-
-
-def clock_of(folder: Folder, kept: Sequence[str]) -> Clock:
+def clock_of(folder: Folder, book: Book) -> Clock:
     """The day's clock, which never goes back behind the transcript. One that runs at another speed than the world's
     goes on where the transcript ends."""
     from ridepool.desk.dispatcher import Clock
 
     began, speed = folder.description["began"], folder.description["speed"]
-    if speed != 1 and kept:
-        return Clock(time.time() - last_second(kept, 0) / speed, speed)
-    least = last_second(kept, time.time() - began)
+    report = book.state.lines.report
+    assert report is not None
+    wait = report.settings["wait"]
+    if speed != 1 and book.state.lines.count:
+        return Clock(time.time() - book.seconds.last(0, MOST_LEAD + wait) / speed, speed)
+    least = book.seconds.last(time.time() - began, MOST_LEAD + wait)
     clock = Clock(began, speed, least)
     if clock.behind >= 1:
         log.say(f"this machine's clock is {clock.behind:.0f} s behind the day's last second; the day goes on from second "
@@ -250,104 +250,89 @@ def tiles_of(values: Mapping[str, str]) -> Tuple[Optional[str], Optional[str]]:
     return tiles, f"{scheme}://{place}"
 
 
-def asked(found: object, path: pathlib.Path) -> bool:
-    """Whether the operator goes on with other replies than before."""
-    print(f"{path}: the replies of the day so far differ at {found}", file=sys.stderr)
-    print("Go on with the new replies? The old transcript is kept beside the new one. (yes/no) ",
-          end="", file=sys.stderr, flush=True)
-    return sys.stdin.readline().strip().lower() in ("y", "yes")
+def hold_transcript(folder: Folder) -> None:
+    """A transcript that was lost is never taken for that of a new day."""
+    if folder.has_lost_transcript():
+        raise Fault(f"{folder.transcript_path}: the transcript is missing or empty, and rows.csv has {folder.count_rows()} rows of "
+                    "this day. Put the transcript back: without it the day can't go on")
 
 
-def rebuild_asked(folder: Folder) -> bool:
-    """Whether the operator has the transcript made anew of the rows."""
-    print(f"{folder.path}: the transcript is missing or empty, and rows.csv has {len(folder.kept_rows())} rows of this day",
-          file=sys.stderr)
-    print("Make the transcript anew of these rows? (yes/no) ", end="", file=sys.stderr, flush=True)
-    return sys.stdin.readline().strip().lower() in ("y", "yes")
-
-
-async def rebuilt(dispatcher: Dispatcher, folder: Folder) -> None:
-    """Makes a lost transcript anew, where the operator wants it: it is never taken for that of a new day."""
-    from ridepool.desk.dispatcher import Unavailable
-
-    if not await asyncio.to_thread(rebuild_asked, folder):
-        raise Fault("the day was left as it is; put the transcript back, or answer yes")
-    try:
-        await dispatcher.rebuild()
-    except Unavailable as fault:
-        raise Fault(str(fault)) from None
-    dispatcher.go_on()
-    log.say(f"the transcript was made anew of {folder.path}/rows.csv", log.WARNING)
-
-
-async def replayed(dispatcher: Dispatcher, folder: Folder, kept: Sequence[str]) -> None:
-    """Gives the day so far to `live`."""
-    from ridepool.desk.dispatcher import Unavailable
-
-    if kept:
-        log.say(f"giving {len(kept)} lines of {folder.path} to ridepool live")
-    try:
-        found = await dispatcher.begin()
-    except Unavailable as fault:
-        raise Fault(str(fault)) from None
-    if found is not None and not await asyncio.to_thread(asked, found, folder.path / "transcript"):
-        if dispatcher.live is not None:
-            await dispatcher.live.kill()
-        raise Fault("the day was left as it is")
-    dispatcher.go_on(replaced=found is not None)
-
-
-async def opened(values: Mapping[str, str], folder: Folder) -> Dispatcher:
-    """The dispatcher, with the day so far."""
-    from ridepool.desk.dispatcher import Dispatcher
+def dispatcher_of(values: Mapping[str, str], folder: Folder) -> Dispatcher:
+    """The dispatcher, which hasn't begun yet."""
+    from ridepool.desk.dispatcher import Clock, Dispatcher
     from ridepool.desk.trouble import Watch
 
-    kept = folder.kept_lines()
-    words = [f"network={folder.input('network')}", f"fleet={folder.input('fleet')}", *folder.description["settings"]]
-    watch = Watch(folder.description["every"], 60 * number(values, "silent", 0, 1440, 10))
-    dispatcher = Dispatcher(values.get("program") or program.path(), words, folder,
-                            lambda: fleet_of(folder.input("fleet")), clock_of(folder, kept), watch)
-    if folder.has_lost_transcript():
-        await rebuilt(dispatcher, folder)
-    else:
-        await replayed(dispatcher, folder, kept)
-    return dispatcher
+    about = folder.description
+    words = [f"network={folder.input('network')}", f"fleet={folder.input('fleet')}", *about["settings"]]
+    watch = Watch(about["every"], 60 * number(values, "silent", 0, 1440, 10))
+    return Dispatcher(values.get("program") or program.path(), words, folder, lambda: fleet_of(folder.input("fleet")),
+                      Clock(about["began"], about["speed"]), watch)
+
+
+async def open_day(dispatcher: Dispatcher, folder: Folder) -> None:
+    """Starts the program with the day so far. A transcript that it refuses stays as it is."""
+    from ridepool.desk.dispatcher import Unavailable
+
+    size = folder.transcript_bytes()
+    if size is not None:
+        log.say(f"ridepool resume goes on with the {size} bytes of {folder.transcript_path}")
+    try:
+        await dispatcher.begin()
+    except Unavailable as fault:
+        raise Fault(f"the day in {folder.path} was left as it is: {fault}") from None
+    assert dispatcher.past is not None
+    dispatcher.clock = clock_of(folder, dispatcher.past.book)
+    dispatcher.go_on()
 
 
 async def serve(values: Mapping[str, str]) -> int:
     """Opens the desk, until it is told to end. Gives the status with which it ends."""
     host, port = values.get("host", LOOPBACK[0]), number(values, "port", 0, 65_535, 8000)
+    from ridepool.desk.calls.shared import Desk
     from ridepool.desk.hook import hook_of
+    from ridepool.desk.ways import Ways
+    from ridepool.inputs.roads import Roads
 
-    tokens, (tiles, tiles_place), names = tokens_of(values), tiles_of(values), names_of(values)
+    tokens, (tiles, tiles_place) = tokens_of(values), tiles_of(values)
     hook = hook_of(values.get("hook"), values.get("secret"))
     listener = bound(host, port)
-    port, folder = listener.getsockname()[1], day_of(values)
+    folder = day_of(values)
     try:
+        hold_transcript(folder)
         places, streets = map_of(folder, number(values, "far", 1, 100_000, 500))
-        dispatcher = await opened(values, folder)
+        dispatcher = dispatcher_of(values, folder)
         dispatcher.hook = hook
+        desk = Desk(dispatcher, places, streets, Ways(Roads(streets)), {"needs_token": tokens is not None, "tiles": tiles})
+        app = app_of(values, desk, tokens, tiles_place, listener)
+        return await run_desk(dispatcher, app, listener, lambda: begun(values, folder, dispatcher, desk))
     except (Fault, OSError):
         folder.forget_unbegun()
         raise
-    hosts = hosts_of(host, port, names)
-    page = {"needs_token": tokens is not None, "tiles": tiles, **page_of(values, dispatcher)}
+
+
+async def begun(values: Mapping[str, str], folder: Folder, dispatcher: Dispatcher, desk: Desk) -> Clients:
+    """Opens the day. Gives what goes on by itself from then on."""
+    await open_day(dispatcher, folder)
+    desk.page.update(page_of(values, dispatcher))
+    return clients_of(values, folder, dispatcher, desk.places, desk.ways)
+
+
+def app_of(values: Mapping[str, str], desk: Desk, tokens: Optional[Tokens], tiles_place: Optional[str],
+           listener: socket.socket) -> ASGIApp:
+    """The calls, with what stands before them."""
     from starlette.middleware.trustedhost import TrustedHostMiddleware
 
     from ridepool.desk.access import AccessLog
-    from ridepool.desk.calls.shared import Desk
     from ridepool.desk.guard import Guard, Who
-    from ridepool.desk.ways import Ways
-    from ridepool.desk.web import make_app
-    from ridepool.inputs.roads import Roads
+    from ridepool.desk.web import Opening, make_app
 
     # Where it has other names, a server may stand before it that others can call.
     reading = is_open(values) or "name" in values or "tokens" in values
-    who = Who(tokens, reading, AccessLog(folder.path / ACCESS))
-    ways = Ways(Roads(streets))
-    guard = Guard(make_app(Desk(dispatcher, places, streets, ways, page)), hosts, who, tiles_place)
-    app = TrustedHostMiddleware(guard, trusted(hosts), www_redirect=False)
-    return await run_desk(dispatcher, app, listener, clients_of(values, folder, dispatcher, places, ways))
+    host, port = values.get("host", LOOPBACK[0]), listener.getsockname()[1]
+    hosts = hosts_of(host, port, names_of(values))
+    who = Who(tokens, reading, AccessLog(desk.dispatcher.folder.path / ACCESS))
+    guard = Guard(Opening(make_app(desk), desk.dispatcher), hosts, who, tiles_place)
+    return TrustedHostMiddleware(guard, trusted(hosts), www_redirect=False)
 
 
 def page_of(values: Mapping[str, str], dispatcher: Dispatcher) -> Dict[str, Any]:
@@ -366,7 +351,7 @@ def zone() -> str:
 
 
 def clients_of(values: Mapping[str, str], folder: Folder, dispatcher: Dispatcher, places: Places,
-               ways: Ways) -> List[Coroutine[Any, Any, None]]:
+               ways: Ways) -> Clients:
     """What goes on by itself: seals, and the demo's drivers and riders."""
     from ridepool.desk import demo
 
@@ -382,9 +367,8 @@ def clients_of(values: Mapping[str, str], folder: Folder, dispatcher: Dispatcher
     return clients
 
 
-async def run_desk(dispatcher: Dispatcher, app: ASGIApp, listener: socket.socket,
-                   clients: Iterable[Coroutine[Any, Any, None]]) -> int:
-    """Serves the page and the calls. Gives the status with which the desk ends."""
+async def run_desk(dispatcher: Dispatcher, app: ASGIApp, listener: socket.socket, begin: Begin) -> int:
+    """Serves the page and the calls, and begins the day meanwhile. Gives the status with which the desk ends."""
     import uvicorn
 
     from uvicorn.protocols.http.auto import AutoHTTPProtocol
@@ -395,15 +379,31 @@ async def run_desk(dispatcher: Dispatcher, app: ASGIApp, listener: socket.socket
     config = uvicorn.Config(app, log_level="error", access_log=False, lifespan="off", timeout_keep_alive=30, ws="none",
                             http=limited(AutoHTTPProtocol, Connections()))
     server = uvicorn.Server(config)
-    tasks = [dispatcher.spawn(it) for it in clients]
+    going = asyncio.ensure_future(go_on_by_itself(dispatcher, server, listener, begin))
+    dispatcher.watched(going)
     try:
         await ended(server, listener, dispatcher)
+    finally:
+        going.cancel()
+        await asyncio.gather(going, return_exceptions=True)
+        await dispatcher.end()
+    return status_of(dispatcher)
+
+
+async def go_on_by_itself(dispatcher: Dispatcher, server: uvicorn.Server, listener: socket.socket, begin: Begin) -> None:
+    """Begins the day once the port answers, and then does what goes on by itself, until it is cancelled."""
+    while not server.started:
+        await asyncio.sleep(0.01)
+    host, port = listener.getsockname()[:2]
+    log.say(f"http://{host}:{port} answers; the dispatcher is starting")
+    tasks = [dispatcher.spawn(it) for it in await begin()]
+    log.say(f"http://{host}:{port} keeps its day in {dispatcher.folder.path}")
+    try:
+        await asyncio.Event().wait()
     finally:
         for task in tasks:
             task.cancel()
         await asyncio.gather(*tasks, return_exceptions=True)
-        await dispatcher.end()
-    return status_of(dispatcher)
 
 
 def status_of(dispatcher: Dispatcher) -> int:
@@ -424,8 +424,6 @@ async def ended(server: uvicorn.Server, listener: socket.socket, dispatcher: Dis
     serving = asyncio.ensure_future(server.serve(sockets=[listener]))
     while not server.started and not serving.done():
         await asyncio.sleep(0.01)
-    host, port = listener.getsockname()[:2]
-    log.say(f"http://{host}:{port} keeps its day in {dispatcher.folder.path}")
 
     def stop() -> None:
         if server.should_exit and dispatcher.live is not None:  # a second signal doesn't wait for a batch that is being solved

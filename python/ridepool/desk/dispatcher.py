@@ -3,24 +3,24 @@
 import asyncio
 import json
 import time
-from collections import Counter, deque
+from collections import deque
 
-from ridepool.desk import log, replay
+from ridepool.desk import log
+from ridepool.desk.book import Book
 from ridepool.desk.breaks import Breaks
 from ridepool.desk.contacts import Contacts
-from ridepool.desk.folder import HEAD_LINES
 from ridepool.desk.metrics import Meter
 from ridepool.desk.numbers import FIRST_OWN
-from ridepool.desk.totals import Trip
+from ridepool.desk.past import Past
 from ridepool.desk.trouble import MOST_SHOWN, Trouble, setting
 from ridepool.sessions.process import Live
 from ridepool.sessions.rows import entrys_row, lane_of, row_of
+from ridepool.sessions.stand import stand_of
 from ridepool.sessions.state import ENDED, State
 from ridepool.words import Fault
 
 MOST_WAITING_ROWS = 10_000
 MOST_RESTARTS = 3
-REPLAYS = 3
 MOST_LISTENERS, LISTENER_ROOM = 100, 2_000
 ANSWER_SECONDS = 5  # a command or the disk that takes longer hangs
 SLOW_PLANS = 10  # a plan that takes so many times `every` hangs
@@ -28,7 +28,6 @@ PLAN_SECONDS = 30  # what stands for `every` where plans are made by calls alone
 RESTART_PAUSE = 0.5
 CONTACTS, BREAKS = "contacts.jsonl", "breaks.json"  # in the day's folder
 TOLD = ("waiting", "promised", "expired")
-COUNTED = {"dropped": "delivered", "cancelled": "cancelled"}
 
 
 class Unavailable(Exception):
@@ -77,93 +76,97 @@ class Clock:
 
 
 class Dispatcher:
-    """A running day. `status` is starting, ready or ended, with a text why. `failed` has what ends the desk."""
+    """A running day. `status` is starting, ready or ended, with a text why. `failed` has what ends the desk. `past` is the day
+    so far while a program starts; `has_opened` says that it was read once, `takes_lines` that what the program prints is the
+    day's."""
 
     def __init__(self, program, words, folder, fleet, clock, watch):
         self.program, self.words, self.folder, self.fleet, self.clock = program, words, folder, fleet, clock
         self.watch, self.failed, self.meter = watch, asyncio.get_running_loop().create_future(), Meter()
         self.status, self.why = "starting", "the dispatcher is starting"
         self.restarts, self.listeners, self.places = 0, set(), {}
+        self.has_opened = self.takes_lines = False
         self.before_seal, self.sealing = [], asyncio.Lock()
         self.to_sync, self.syncing, self.stopping = deque(), None, False
         self.contacts, self.breaks, self.hook = Contacts(folder.path / CONTACTS), Breaks(folder.path / BREAKS), None
         self.before_seal.append(self.keep_breaks)
         self.live, self.told = None, asyncio.Condition()
         self.hang, self.stopped_since, self.sync_began, self.troubles_told = None, None, None, []
+        self.book, self.past, self.round, self.next_ride = Book(self.fleet()), None, 0, 1
+        self.numbers_of_fleet = sorted(self.state.vehicles)
         self.clear()
         self.meter.watch(self)
 
     def clear(self):
-        """What a new `live` begins with."""
-        self.state = State(self.fleet())
+        """What a new program begins with: nobody waits for it."""
         self.waiting = {lane: deque() for lane in range(16)}
-        self.sent, self.ran, self.numbers = 0, 0, {}
-        self.solving_since, self.solved_in = None, {}
-        self.next_ride, self.lines, self.tally, self.trips = 1, None, Counter(), []
-        self.numbers_of_fleet = sorted(self.state.vehicles)
+        self.sent, self.numbers, self.solving_since = 0, {}, None
+
+    @property
+    def state(self) -> State:
+        """The book as the transcript tells it."""
+        return self.book.state
+
+    @property
+    def tally(self):
+        """How many were delivered or cancelled, or expired, and how many promises lapsed."""
+        return self.book.tally
+
+    @property
+    def trips(self):
+        """The rides that are over."""
+        return self.book.trips
 
     # Beginning, going on and ending
 
-    async def rebuild(self):
-        """Starts `live` and gives it the rows that were kept, each batch closed before the next row is sent."""
-        await self.start_live("the transcript is made anew")
-        for piece in replay.pieces_of_rows(self.folder.kept_rows()):
-            self.live.send(piece)
-            self.sent += piece.count("\n")
-            await self.until(lambda: self.status == "ended" or self.ran == self.sent and self.state.sealing is None)
-        await self.head()
-
     async def begin(self):
-        """Starts `live` and gives it the day so far. Gives the Difference where it answers otherwise.
-
-        Where a difference may come of a batch that closed sooner or later than before, it is tried again.
-        """
-        kept = self.folder.kept_lines()
-        for left in reversed(range(REPLAYS if replay.has_rows_among_batches(kept) else 1)):
-            await self.replay(kept)
-            found = replay.difference(kept, self.lines)
-            if found is None or left == 0:
-                return found
-            await self.live.kill()
-
-    async def replay(self, kept):
-        """Starts `live` and sends it the rows of a transcript."""
-        await self.start_live(f"the day so far has {len(kept)} lines")
-        for rows, batch in replay.pieces(kept):
-            self.live.send(rows)
-            self.sent += rows.count("\n")
-            await self.until(lambda: self.status == "ended" or self.has_run(batch))
-        await self.head()
-
-    async def start_live(self, why):
-        """Starts `live`."""
+        """Starts the program with the day so far, and waits until all of it has come: `resume` on the transcript, or `live`
+        where none stands. Until then the day's files and the book stay as they are."""
         self.clear()
-        self.lines, self.status, self.why = [], "starting", f"the dispatcher is starting; {why}"
-        self.live = Live(self.program, self.words, self.on_lines, self.on_refused, self.on_end)
-        await self.live.start()
-        self.watched(self.live.reading)
-
-    async def head(self):
-        """Waits for the transcript's first lines."""
-        await self.until(lambda: self.status == "ended" or len(self.lines) >= HEAD_LINES)
-        if self.status == "ended":
+        whole = self.folder.transcript_bytes()
+        self.past = Past(Book(self.fleet()), self.folder.begin_anew(), whole)
+        self.takes_lines = False
+        self.live = Live(self.program, self.call(whole), self.on_lines, self.on_refused, self.on_end, self.on_other)
+        has_come = False
+        try:
+            await self.live.start()
+            self.watched(self.live.reading)
+            await self.until(lambda: self.status == "ended" or self.past.is_through)
+            if self.status != "ended":
+                await asyncio.get_running_loop().run_in_executor(None, self.past.files.sync)
+                has_come = True
+        finally:
+            if not has_come:
+                self.past.files.drop()
+                self.past = None
+        if not has_come:
             raise Unavailable(self.why)
 
-    def has_run(self, batch):
-        """Whether all rows so far are answered, and the block of this batch is in."""
-        return self.ran == self.sent and (batch is None or batch in self.state.batches)
+    def call(self, whole):
+        """The command and the words of the program."""
+        if whole is None:
+            return ["live", *self.words]
+        kept = ("network=", "fleet=", "workers=", "times=")  # all others are the transcript's
+        return ["resume", *(it for it in self.words if it.startswith(kept)), f"report={self.folder.transcript_path}"]
 
     async def until(self, holds):
         """Waits until something holds; it is tried at each piece of the transcript."""
         async with self.told:
             await self.told.wait_for(holds)
 
-    def go_on(self, replaced=False):
-        """Takes the lines of the replay as the day's, and is ready for commands."""
-        self.folder.keep(self.lines, replaced)
-        self.lines = None
+    def go_on(self):
+        """Takes the day so far as the day, and is ready for commands."""
+        past, before = self.past, self.state.batches
+        self.folder.take(past.files)
+        self.book, self.round, self.past = past.book, past.round, None
+        self.has_opened = self.takes_lines = True
+        for number, batch in self.state.batches.items():
+            if "seconds" in before.get(number, ()):
+                batch["seconds"] = before[number]["seconds"]
         self.set_status("ready", "")
         self.publish("state", self.snapshot())
+        if past.closed is not None:
+            self.publish_change(past.closed)
 
     def set_status(self, status, why):
         """Tells a new status."""
@@ -173,9 +176,10 @@ class Dispatcher:
     async def end(self):
         """Ends the input of `live`, so that the transcript is a whole report, and keeps its last lines."""
         self.stopping = True
+        is_starting = self.status == "starting"
         self.set_status("ended", "the desk was closed")
         if self.live is not None:
-            await self.live.finish()
+            await (self.live.kill() if is_starting else self.live.finish())
         if self.syncing is not None:
             await asyncio.wait([self.syncing])
         self.folder.close()
@@ -185,7 +189,7 @@ class Dispatcher:
     async def command(self, command, *fields, party=1):
         """Sends a command. Gives its entry of the transcript once that is on disk."""
         if self.status != "ready":
-            raise Unavailable(self.why)
+            raise Unavailable(self.why_in_full())
         if len(self.numbers) >= MOST_WAITING_ROWS:
             raise Unavailable("too many commands wait for their answer")
         lane = lane_of(command, fields)
@@ -193,7 +197,7 @@ class Dispatcher:
         waiting = Waiting(self.sent, command, fields)
         self.numbers[self.sent] = waiting
         self.waiting[lane].append(waiting)
-        self.live.send(row_of(lane, command, fields, party))
+        self.live.send(row_of(lane, command, fields, party, self.round))
         return await waiting.answer
 
     def fleet_numbers(self):
@@ -240,35 +244,34 @@ class Dispatcher:
 
     def on_lines(self, lines):
         """Takes whole lines of the transcript: answers the rows, keeps the lines, tells the listeners."""
+        if self.past is not None:
+            self.past.take(lines)
+        elif self.takes_lines:
+            self.take(lines)
+        self.spawn(self.notify())
+
+    def take(self, lines):
+        """Takes lines behind the day so far."""
         rows, answers, events = [], [], []
         for line in lines:
-            change = self.state.line(line)
+            change = self.book.line(line)
             if change is None:
                 continue
             if change.entry is not None and change.entry.command != "close":
-                self.ran += 1
                 rows.append(entrys_row(change.entry))
                 self.answered(change.entry, answers)
             self.note_time(change)
-            self.count(change)
             events.append(change)
-        if self.lines is not None:
-            self.lines += lines
-        else:
-            self.folder.append("".join(rows), "".join(line + "\n" for line in lines))
-            self.release_after_sync(answers, events)
-        self.spawn(self.notify())
+        self.folder.append("".join(rows), "".join(line + "\n" for line in lines))
+        self.release_after_sync(answers, events)
 
-    def count(self, change):
-        """Counts who was delivered, cancelled or expired, and whose promise lapsed."""
-        if change.batch is not None:
-            self.tally["expired"] += len(change.batch.expired)
-            self.tally["lapsed"] += len(change.batch.lapsed)
-        elif change.entry.reply in COUNTED:
-            self.tally[COUNTED[change.entry.reply]] += 1
-            if change.entry.command == "dropoff":
-                ride = self.state.rides[change.entry.fields[1]]
-                self.trips.append(Trip(ride.vehicle, ride.second, ride.pickup, ride.dropoff))
+    def on_other(self, text):
+        """Takes a line of standard error that refuses no row. Gives whether it says how much is kept."""
+        stand = stand_of(text)
+        if stand is not None and self.past is not None:
+            self.past.stand = stand
+            self.spawn(self.notify())
+        return stand is not None
 
     def release_after_sync(self, answers, events):
         """Answers and events that wait for the disk."""
@@ -279,9 +282,7 @@ class Dispatcher:
             self.syncing = self.spawn(self.sync())
 
     def answered(self, entry, answers):
-        """Finds the row that an entry answers. While the day so far is given to `live`, nobody waits."""
-        if self.lines is not None:
-            return
+        """Finds the row that an entry answers."""
         waiting = self.waiting[entry.lane].popleft()
         if (waiting.command, waiting.fields) != (entry.command, entry.fields):
             raise ValueError("live answered another row than was sent")
@@ -355,32 +356,31 @@ class Dispatcher:
     def go_on_after(self, text):
         """Starts `live` again after an end or a failed start; after three times the desk ends."""
         log.say(text, log.ERROR)
+        if self.stopping:
+            return None
         if self.restarts == MOST_RESTARTS:
             return self.give_up(f"{text}; it was started again {MOST_RESTARTS} times already")
         self.set_status("starting", f"{text}; it is started again")
         self.spawn(self.start_again())
 
     async def start_again(self):
-        """Starts `live` again from the folder."""
+        """Starts the program again from the folder."""
         if self.syncing is not None:
             await asyncio.wait([self.syncing])
         await asyncio.sleep(RESTART_PAUSE * self.restarts)
         self.restarts += 1
         try:
-            found = await self.begin()
-            if found is None:
-                self.go_on()
+            await self.begin()
+            self.go_on()
         except (Unavailable, OSError, Fault) as fault:
             await self.live.kill()
             return self.go_on_after(str(fault))
-        if found is not None:
-            await self.live.kill()
-            return self.give_up(f"the replies differ at {found}; start the desk again to decide")
         log.say("ridepool live goes on from the folder")
 
     def give_up(self, text):
         """Ends the desk, since `live` can't go on."""
         self.set_status("ended", text)
+        self.tell_trouble()
         self.fail(Ended(text))
 
     # What must not hang or die
@@ -411,6 +411,10 @@ class Dispatcher:
         if before != self.hang:
             log.say(self.hang or "nothing hangs any more", log.ERROR if self.hang else log.INFO)
             self.publish("status", self.health())
+        self.tell_trouble()
+
+    def tell_trouble(self):
+        """Tells the listeners the trouble, where it is other than the last that they were told."""
         found = self.troubles()
         if found != self.troubles_told:
             self.troubles_told = found
@@ -558,10 +562,15 @@ class Dispatcher:
     def health(self):
         """Whether commands are taken, and the second of the book."""
         solving = None if self.solving_since is None else round(time.monotonic() - self.solving_since, 1)
-        status, why = ("hangs", self.hang) if self.status == "ready" and self.hang else (self.status, self.why)
+        status, why = ("hangs", self.hang) if self.status == "ready" and self.hang else (self.status, self.why_in_full())
         return {"status": status, "why": why, "second": self.clock.now(), "speed": self.clock.speed,
                 "open_batch": self.open_batch(), "solving_seconds": solving, "restarts": self.restarts,
                 "batches": len(self.state.batches), "rides": len(self.state.rides)}
+
+    def why_in_full(self):
+        """Why no command is taken, and how far a start is."""
+        far = self.past.progress() if self.past is not None else ""
+        return f"{self.why}; {far}" if far else self.why
 
     def clock_event(self):
         """An event that only tells the second."""

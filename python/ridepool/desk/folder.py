@@ -8,11 +8,11 @@ import os
 import pathlib
 import shutil
 
-from ridepool.sessions.rows import HEADER, rows_of
+from ridepool.desk.new_files import ROWS, TRANSCRIPT, NewFiles
 from ridepool.words import Fault
 
 INPUTS = ("network", "fleet", "nodes")
-DESCRIPTION, ROWS, TRANSCRIPT = "day.json", "rows.csv", "transcript"
+DESCRIPTION = "day.json"
 HEAD_LINES = 4  # of a transcript, before the first round
 KINDS = {"settings": list, "speed": int, "every": int, "began": (int, float)}
 
@@ -113,37 +113,36 @@ class Folder:
 
     def has_lost_transcript(self):
         """Whether rows were kept, and the transcript is missing or has lost its first lines, which are written at once."""
-        path = self.path / TRANSCRIPT
-        head = path.read_bytes().count(b"\n", 0, 4096) if path.exists() else 0
-        return head < HEAD_LINES and (self.path / ROWS).exists()
+        return self.transcript_bytes() is None and self.count_rows() > 0
 
-    def kept_rows(self):
-        """The whole rows of the script that stands beside the transcript."""
-        lines = (self.path / ROWS).read_text(encoding="ascii", errors="replace").split("\n")[1:-1]
-        return [line + "\n" for line in lines]
+    def count_rows(self):
+        """How many rows the script that stands beside the transcript has."""
+        path = self.path / ROWS
+        return max(0, path.read_bytes().count(b"\n") - 1) if path.exists() else 0
 
-    def kept_lines(self):
-        """The whole lines of the transcript so far, but for last ones that answer no row: `done N`, where the day
-        ended, and the line of a round of which no entry was written yet."""
-        path = self.path / TRANSCRIPT
+    @property
+    def transcript_path(self):
+        """Where the transcript stands."""
+        return self.path / TRANSCRIPT
+
+    def transcript_bytes(self):
+        """The bytes of the transcript so far; None where it has no first lines."""
+        path = self.transcript_path
         if not path.exists():
-            return []
-        lines = path.read_text(encoding="ascii", errors="replace").split("\n")[:-1]
-        while lines and lines[-1].startswith(("done ", "round ")):
-            lines.pop()
-        return lines
+            return None
+        with open(path, "rb") as file:
+            return os.fstat(file.fileno()).st_size if file.read(4096).count(b"\n") >= HEAD_LINES else None
 
-    def keep(self, lines, replaced=False):
-        """Begins the files anew with the lines of a transcript. A replaced transcript stays beside them."""
+    def begin_anew(self):
+        """New files of rows and transcript, beside the old ones."""
+        return NewFiles(self.path)
+
+    def take(self, files):
+        """Puts new files in the place of the old ones, and goes on with them."""
         self.close()
-        path = self.path / TRANSCRIPT
-        if replaced:
-            count = len(list(self.path.glob(f"{TRANSCRIPT}.*"))) + 1
-            shutil.copyfile(path, self.path / f"{TRANSCRIPT}.{count}")
-        write_whole(path, "".join(line + "\n" for line in lines))
-        write_whole(self.path / ROWS, HEADER + "\n" + rows_of(lines))
-        self.rows = open(self.path / ROWS, "a", encoding="ascii")
-        self.transcript = open(path, "a", encoding="ascii")
+        files.take_place(self.path)
+        sync_folder(self.path)
+        self.rows, self.transcript = files.rows, files.transcript
 
     def append(self, rows, lines):
         """Hands rows and lines to the system; `sync` makes them last."""

@@ -8,16 +8,18 @@ from fastapi import FastAPI, Request
 from fastapi.exceptions import RequestValidationError
 from fastapi.responses import JSONResponse, Response
 from starlette.exceptions import HTTPException as AnyHTTPException
+from starlette.types import ASGIApp, Receive, Scope, Send
 
 from ridepool.desk.calls.about import add_desk
 from ridepool.desk.calls.batches import add_batches
-from ridepool.desk.calls.files import add_files
+from ridepool.desk.calls.files import add_files, is_file
 from ridepool.desk.calls.riders import add_contacts, add_rides
 from ridepool.desk.calls.shared import Desk, answered
 from ridepool.desk.calls.shift import add_breaks, add_shift, add_tables
 from ridepool.desk.calls.trips import add_trips
 from ridepool.desk.calls.vehicles import add_entries, add_vehicles
-from ridepool.desk.dispatcher import Refused, Unavailable
+from ridepool.desk.dispatcher import Dispatcher, Refused, Unavailable
+from ridepool.desk.guard import OPEN
 
 NO_JSON = ("value_error.jsondecode", "json_invalid")  # pydantic 1, pydantic 2
 NO_OBJECT = ("type_error.dict", "model_attributes_type", "dict_type", "model_type")
@@ -65,3 +67,18 @@ def add_faults(app: FastAPI) -> None:
     @app.exception_handler(Refused)
     async def refused(request: Request, fault: Refused) -> Response:
         return answered(500, {"text": str(fault)})
+
+
+class Opening:
+    """Stands before the calls while the day so far is read for the first time: only the pages and `/health` are answered."""
+
+    def __init__(self, app: ASGIApp, dispatcher: Dispatcher) -> None:
+        self.app, self.dispatcher = app, dispatcher
+
+    async def __call__(self, scope: Scope, receive: Receive, send: Send) -> None:
+        path = scope.get("path", "")
+        if self.dispatcher.has_opened or scope["type"] != "http" or is_file(path) or path in OPEN:
+            await self.app(scope, receive, send)
+        else:
+            response = JSONResponse({"text": self.dispatcher.why_in_full()}, status_code=503, headers={"retry-after": "2"})
+            await response(scope, receive, send)

@@ -9,6 +9,8 @@ from ridepool.inputs.network import NO_WAY, Network
 from ridepool.policies.state import DROP, PICK, Asking, Decision, Order, Standing, State, Visit
 from ridepool.report.reader import Entry
 from ridepool.sessions.blocking import Live
+from ridepool.sessions.dialogue import Plan
+from ridepool.sessions.resumed import resume
 from ridepool.settings import Settings
 
 Answer = Union[Decision, Mapping[int, Order]]
@@ -53,6 +55,10 @@ class Ridepool(Policy):
         """Starts the session."""
         self.session = Live(net, fleet, settings, self.program)
 
+    def go_on(self, net: Network, fleet: Fleet, settings: Settings, transcript: bytes) -> None:
+        """Starts a session that goes on behind the transcript of another."""
+        self.session = resume(transcript, net, fleet, workers=settings.workers, times=settings.times, program=self.program)
+
     def tell(self, entry: Entry) -> None:
         """Tells a command. It was taken by the simulation, so the book takes it, or refuses it with the same words."""
         assert self.session is not None
@@ -77,17 +83,21 @@ class Ridepool(Policy):
         for entry in state.entered:
             self.tell(entry)
         assert self.session is not None
-        plan = self.session.seal(second=state.second)
-        if plan.overflow:
-            return Decision(is_overflow=True)
-        orders = {trip.vehicle: [Visit(stop.kind, stop.rider) for stop in trip.stops] for trip in plan.batch.trips}
-        moves = {move.vehicle: move.rider for move in plan.batch.moves} if self.moves else {}
-        return Decision(orders, moves, set(plan.rv["rider"].tolist()), plan.bound, plan.nodes)
+        return decision_of(self.session.seal(second=state.second), self.moves)
 
     def end(self) -> None:
         """Ends the session."""
         if self.session is not None:
             self.session.kill()
+
+
+def decision_of(plan: Plan, with_moves: bool = True) -> Decision:
+    """What a session's plan decides."""
+    if plan.overflow:
+        return Decision(is_overflow=True)
+    orders = {trip.vehicle: [Visit(stop.kind, stop.rider) for stop in trip.stops] for trip in plan.batch.trips}
+    moves = {move.vehicle: move.rider for move in plan.batch.moves} if with_moves else {}
+    return Decision(orders, moves, set(plan.rv["rider"].tolist()), plan.bound, plan.nodes)
 
 
 class NearestFree(Policy):

@@ -153,6 +153,24 @@ class Dialogue:
         return "".join(f"{line}\n" for line in self.texts).encode("ascii")
 
 
+def plans_of(transcript: bytes) -> "list[Plan]":
+    """The plans of a transcript, in their order."""
+    lines: Any = Transcript()
+    found: "list[Plan]" = []
+    block: "list[str]" = []
+    sealed = Answer("", 0)
+    for text in transcript.decode("ascii").splitlines():
+        entry = lines.line(text)
+        if block or text.startswith("batch "):
+            block.append(f"{text}\n")
+        if lines.closed is not None and entry is lines.closed:
+            found.append(Plan(sealed, lines.closed, "".join(block)))
+            block = []
+        elif entry is not None and entry.reply.startswith("sealed "):
+            sealed = Answer(entry.reply, entry.position)
+    return found
+
+
 def answer_of(asked: Asked) -> Answer:
     """What a command is answered."""
     if asked.fault is not None:

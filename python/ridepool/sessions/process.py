@@ -1,4 +1,4 @@
-"""A started `ridepool live`: rows go in, whole lines of the transcript come out."""
+"""A started `ridepool live` or `ridepool resume`: rows go in, whole lines of the transcript come out."""
 
 import asyncio
 import contextlib
@@ -11,13 +11,15 @@ CHUNK = 65_536
 
 
 class Live:
-    """The running program. `on_lines` is told whole lines as they come, `on_refused` the number of a row that
-    was refused and the text, `on_end` the text of the end."""
+    """The running program; `words` begin with its command. `on_lines` is told whole lines as they come, `on_refused` the
+    number of a row that was refused and the text, `on_end` the text of the end, `on_other` each other line of standard
+    error, and gives whether it was meant."""
 
     def __init__(self, program: Path, words: Sequence[str], on_lines: Callable[[List[str]], None],
-                 on_refused: Callable[[int, str], None], on_end: Callable[[str], None]) -> None:
-        self.command = [str(program), "live", *words]
-        self.on_lines, self.on_refused, self.on_end = on_lines, on_refused, on_end
+                 on_refused: Callable[[int, str], None], on_end: Callable[[str], None],
+                 on_other: Optional[Callable[[str], bool]] = None) -> None:
+        self.command = [str(program), *words]
+        self.on_lines, self.on_refused, self.on_end, self.on_other = on_lines, on_refused, on_end, on_other
         self.child: Optional[asyncio.subprocess.Process] = None
         self.reading: "Optional[asyncio.Task[None]]" = None
         self.told = ""
@@ -64,16 +66,16 @@ class Live:
         with contextlib.suppress(OSError):
             await self.rows.wait_closed()
         how = f"was ended by signal {-status}" if status < 0 else f"ended with status {status}"
-        self.on_end(f"ridepool live {how}" + (f": {self.told}" if self.told else ""))
+        self.on_end(f"ridepool {self.command[1]} {how}" + (f": {self.told}" if self.told else ""))
 
     async def read_lines(self) -> None:
         """Hands on whole lines as they come."""
         assert self.process.stdout is not None
         rest = b""
         while chunk := await self.process.stdout.read(CHUNK):
-            *lines, rest = (rest + chunk).split(b"\n")
-            if lines:
-                self.on_lines([line.decode("ascii") for line in lines])
+            text, ends, rest = (rest + chunk).rpartition(b"\n")
+            if ends:
+                self.on_lines(text.decode("ascii").split("\n"))
 
     async def read_errors(self) -> None:
         """Reads standard error. A refused row is told; the last other line stands in the text of the end."""
@@ -81,10 +83,10 @@ class Live:
         while line := await self.process.stderr.readline():
             text = line.decode("ascii", "replace").strip()
             row = refused_row(text)
-            if row is None:
-                self.told = text
-            else:
+            if row is not None:
                 self.on_refused(row, text)
+            elif self.on_other is None or not self.on_other(text):
+                self.told = text
 
     def is_stopped(self) -> bool:
         """Whether a signal has stopped the program, so that it takes nothing until another lets it go on."""

@@ -1,32 +1,14 @@
 """`resume`: a session that goes on behind what a transcript, maybe torn, keeps of a day."""
 
-import re
-from dataclasses import dataclass
 from typing import List, Optional
 
 from ridepool.inputs.checks import Path
 from ridepool.inputs.fleet import Fleet
 from ridepool.inputs.network import Network
 from ridepool.sessions.blocking import Live
+from ridepool.sessions.stand import Stand, stand_of
 from ridepool.sessions.started import Start
 from ridepool.settings import Settings
-
-STAND = re.compile(r"ridepool: resumed entries=(\d+) bytes=(\d+) round=(\d+|none) open=(\d+|none)")
-
-
-@dataclass(frozen=True)
-class Stand:
-    """What is kept of a transcript: so many entries and bytes, up to a row of this round. The batch `open` had no plan yet."""
-
-    entries: int
-    bytes: int
-    round: Optional[int]
-    open: Optional[int]
-
-
-def number_or_none(text: str) -> Optional[int]:
-    """A number, or None for the word `none`."""
-    return None if text == "none" else int(text)
 
 
 class Resumed(Live):
@@ -55,14 +37,13 @@ class Resumed(Live):
             super()._told(line)
 
     def _complained(self, line: str) -> None:
-        found = STAND.fullmatch(line)
-        if self.stand is not None or found is None:
+        stand = stand_of(line) if self.stand is None else None
+        if stand is None:
             super()._complained(line)
             return
         self.errors.remove(line)
-        entries, size, round_, open_ = found.groups()
-        self.stand = Stand(int(entries), int(size), number_or_none(round_), number_or_none(open_))
-        self.dialogue.round = 0 if self.stand.round is None else self.stand.round + 1
+        self.stand = stand
+        self.dialogue.round = stand.next_round
         held, self.held = self.held, []
         for it in held:
             self._told(it)

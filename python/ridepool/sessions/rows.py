@@ -1,9 +1,8 @@
-"""The rows that `ridepool live` is sent. All of a day stand in one round, so that no row waits for another lane."""
+"""The rows that `ridepool live` is sent. All of a start stand in one round, so that no row waits for another lane."""
 
-from typing import Iterable, List, Optional, Sequence
+from typing import Optional, Sequence
 
-from ridepool.report.reader import Entry, entry_of
-from ridepool.words import Fault
+from ridepool.report.reader import Entry
 
 HEADER = "round,lane,command,a,b,c,d,e"
 REFUSAL = "ridepool: script: "
@@ -20,14 +19,13 @@ def lane_of(command: str, fields: Sequence[int]) -> int:
 
 def row_of(lane: int, command: str, fields: Sequence[int], party: int = 1, round_: int = 0) -> str:
     """The row of a command, with its line feed."""
-    numbers = list(map(str, fields)) + [""] * (4 - len(fields))
-    last = str(party) if command == "submit" else ""
-    return ",".join([str(round_), str(lane), command, *numbers, last]) + "\n"
+    empty, last = "," * (4 - len(fields)), party if command == "submit" else ""
+    return f"{round_},{lane},{command},{','.join(map(str, fields))}{empty},{last}\n"
 
 
 def entrys_row(entry: Entry) -> str:
-    """The row that an entry of a transcript answers."""
-    return row_of(entry.lane, entry.command, entry.fields, entry.party)
+    """The row that an entry of a transcript answers, in its round."""
+    return row_of(entry.lane, entry.command, entry.fields, entry.party, entry.round)
 
 
 def refused_row(line: str) -> Optional[int]:
@@ -44,20 +42,3 @@ def refused_row(line: str) -> Optional[int]:
         words = words[:-2]
     number = words[1] if words[0] == "row" and len(words) > 1 else words[-1] if words[-3:-1] == ["at", "row"] else ""
     return int(number) if number.isdecimal() else None
-
-
-def entries_of(lines: Iterable[str]) -> List[Entry]:
-    """The entries among the lines of a transcript: those of rows, and the closes."""
-    found = []
-    for number, line in enumerate(lines, 1):
-        if line[:1].isdigit():
-            try:
-                found.append(entry_of(0, line.split(" ")))
-            except (ValueError, KeyError, IndexError):
-                raise Fault(f"transcript: line {number} is not one of a report") from None
-    return found
-
-
-def rows_of(lines: Iterable[str]) -> str:
-    """The rows that a transcript answers, as a text."""
-    return "".join(entrys_row(it) for it in entries_of(lines) if it.command != "close")

@@ -445,19 +445,22 @@ function openFound(kind, number) {
   return picked(number);
 }
 
-// Fetches the network; where a token is needed for that, the page asks for one. Gives whether it is there.
+// Fetches the network; where a token is needed for that, the page asks for one. A desk that starts says how far it is. Gives
+// whether the network is there.
 async function fetchNetwork() {
+  let starting = "";
   try {
     const response = await fetch("network", { headers: bearer() });
     refused = response.status === 401 || response.status === 403;
     if (response.ok) network = await response.json();
+    if (response.status === 503) starting = (await response.json()).text;
   } catch {
     refused = false;
   }
   if (network) return true;
-  byId("bar").className = "lost";
+  byId("bar").className = starting ? "starting" : "lost";
   byId("token-field").hidden = !refused;
-  write("status-text", refused ? barState()[1] : "Connection lost. Trying again");
+  write("status-text", refused ? barState()[1] : starting || "Connection lost. Trying again");
   return false;
 }
 
