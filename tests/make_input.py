@@ -1,5 +1,7 @@
 """Large inputs of a case, which the case's file `make` names, one a line: the file, one of the ways below and its words."""
 
+import os
+
 
 def repeated(header, row, times):
     """The header, and the same row so many times."""
@@ -35,4 +37,13 @@ WAYS = {"repeated": repeated, "numbered": numbered, "padded": padded, "waves": w
 
 def make(line, folder):
     name, way, *words = line.split(" ")
-    (folder / name).write_text(WAYS[way](*words))
+    if way == "sparse":
+        make_sparse(folder / name, *words)
+    else:
+        (folder / name).write_text(WAYS[way](*words))
+
+
+def make_sparse(path, header, length):
+    """The header, and bytes of zero up to so many, which take no room on the disk."""
+    path.write_text(header + "\n")
+    os.truncate(path, int(length))
