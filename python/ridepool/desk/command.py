@@ -107,7 +107,7 @@ def day_of(values: Mapping[str, str]) -> Folder:
 
 def hold_settings(folder: Folder, values: Mapping[str, str]) -> None:
     """A day goes on with its own settings but for those that its transcript doesn't have: they are taken as given."""
-    before = folder.description
+    before = folder.about
     if "proof=1" not in before["settings"]:
         raise Fault(f"{folder.path}: the day there can't go on: its report has no trees, since it began without proof=1")
     now = {**before, **description_of({**described(folder), **values}), "began": before["began"]}
@@ -130,7 +130,7 @@ def words_of(description: Mapping[str, Any]) -> List[str]:
 
 def described(folder: Folder) -> Dict[str, str]:
     """The same by key."""
-    return dict(word.split("=", 1) for word in words_of(folder.description))
+    return dict(word.split("=", 1) for word in words_of(folder.about))
 
 
 def hold_inputs(folder: Folder, given: Iterable[str], values: Mapping[str, str]) -> None:
@@ -167,7 +167,7 @@ def clock_of(folder: Folder, book: Book) -> Clock:
     goes on where the transcript ends."""
     from ridepool.desk.dispatcher import Clock
 
-    began, speed = folder.description["began"], folder.description["speed"]
+    began, speed = folder.about["began"], folder.about["speed"]
     report = book.state.lines.report
     assert report is not None
     wait = report.settings["wait"]
@@ -262,7 +262,7 @@ def dispatcher_of(values: Mapping[str, str], folder: Folder) -> Dispatcher:
     from ridepool.desk.dispatcher import Clock, Dispatcher
     from ridepool.desk.trouble import Watch
 
-    about = folder.description
+    about = folder.about
     words = [f"network={folder.input('network')}", f"fleet={folder.input('fleet')}", *about["settings"]]
     watch = Watch(about["every"], 60 * number(values, "silent", 0, 1440, 10))
     return Dispatcher(values.get("program") or program.path(), words, folder, lambda: fleet_of(folder.input("fleet")),
@@ -358,8 +358,8 @@ def clients_of(values: Mapping[str, str], folder: Folder, dispatcher: Dispatcher
     clients = [dispatcher.keep_watch()]
     if dispatcher.hook is not None:
         clients.append(dispatcher.hook.run())
-    if folder.description["every"]:
-        clients.append(dispatcher.keep_sealing(folder.description["every"]))
+    if folder.about["every"]:
+        clients.append(dispatcher.keep_sealing(folder.about["every"]))
     if number(values, "drivers", 0, 1, 0):
         dwell = int(described(folder).get("dwell", 0))
         riders, seed = number(values, "riders", 0, 1, 0), number(values, "seed", 0, MOST_NUMBER, 1)

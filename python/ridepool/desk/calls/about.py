@@ -4,7 +4,7 @@ from __future__ import annotations
 
 import asyncio
 import re
-from typing import Any, AsyncIterator, List, Tuple
+from typing import AsyncIterator, List, Optional, Tuple
 
 from fastapi import FastAPI, HTTPException, Query, Request
 from fastapi.responses import Response, StreamingResponse
@@ -80,7 +80,7 @@ def pairs_of(desk: Desk, text: str) -> List[Tuple[int, int]]:
     return pairs
 
 
-async def stream(desk: Desk, request: Request, queue: "asyncio.Queue[Any]") -> AsyncIterator[str]:
+async def stream(desk: Desk, request: Request, queue: "asyncio.Queue[Optional[str]]") -> AsyncIterator[str]:
     """The events as they come. Something comes every three seconds, so that a lost connection is seen. The stream ends
     soon after the caller's token was withdrawn."""
     while request.scope["is_welcome"]() and not await request.is_disconnected():
