@@ -9,10 +9,8 @@ run of the accepted rows, by the judge (judge.py) and by `run` itself. The last 
 """
 
 import sys
-import tempfile
-from pathlib import Path
 
-from live_parts.client import Client, Failed
+from live_parts.client import Client
 from live_parts.drawn_rows import drawn_commands, drawn_rows_one_by_one
 from live_parts.ends import (
     little_address_space,
@@ -34,7 +32,8 @@ from live_parts.rows import (
     words_and_files,
     wrong_headers,
 )
-from skips import Skipped, last_line
+from live_parts.trying import try_part
+from skips import last_line
 
 ONE_BY_ONE = 300  # drawn rows that are sent one by one
 
@@ -65,20 +64,6 @@ def parts_of(rows, seed):
         "drawn rows one by one": lambda program, folder: drawn_rows_one_by_one(program, folder, min(rows, ONE_BY_ONE), seed),
     }
     return {**{part.__name__.replace("_", " "): part for part in parts}, **drawn}
-
-
-def try_part(name, part, program):
-    """Whether a part passed; None where it can't be tried."""
-    with tempfile.TemporaryDirectory() as folder:
-        try:
-            part(str(Path(program).resolve()), Path(folder))
-            said, passed = f"{name}: passed", True
-        except Skipped as skipped:
-            said, passed = f"skipped: {skipped}", None
-        except Failed as failure:
-            said, passed = f"{name}: FAILED: {failure}", False
-    print(said, flush=True)
-    return passed
 
 
 def main(program, rows=5000, seed=1, seconds=Client.patience, *names):

@@ -8,12 +8,10 @@ tried.
 """
 
 import sys
-import tempfile
 from concurrent.futures import ThreadPoolExecutor
 from functools import partial
-from pathlib import Path
 
-from live_parts.client import Failed
+from live_parts.trying import try_part
 from resume_parts.cuts import (
     beside_long_batches,
     cut_behind_every_byte,
@@ -30,8 +28,7 @@ from resume_parts.refused import (
     spoiled_reports,
     words_that_are_wrong,
 )
-from skips import Skipped, last_line
-
+from skips import last_line
 
 AT_ONCE = 3  # parts that run side by side
 
@@ -56,20 +53,6 @@ def parts_of(cuts, seed):
         "killed at drawn moments": partial(killed_at_drawn_moments, kills=cuts, seed=seed),
     }
     return {**{part.__name__.replace("_", " "): part for part in parts}, **drawn}
-
-
-def try_part(name, part, program):
-    """Whether a part passed; None where it can't be tried."""
-    with tempfile.TemporaryDirectory() as folder:
-        try:
-            part(str(Path(program).resolve()), Path(folder))
-            said, passed = f"{name}: passed", True
-        except Skipped as skipped:
-            said, passed = f"skipped: {skipped}", None
-        except Failed as failure:
-            said, passed = f"{name}: FAILED: {failure}", False
-    print(said, flush=True)
-    return passed
 
 
 def main(program, cuts=100, seed=1, *names):
