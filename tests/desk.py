@@ -2,9 +2,10 @@
 """Tests of the dispatcher's desk on a program with the word `live`. The last line is `N passed, M failed`, and
 `, K skipped` behind it where tests can't be tried here.
 
-`desk.py PROGRAM [NAME ..]` runs the tests, or those whose names, or whose files' names, are given: calls, clients, limits,
-operations, page, phone, proxy, roles, shift, shift_page, simulator, trouble. What can't be tried, for want of a package, a
-browser or the word `live`, is told in a line `skipped: WHAT, since WHY`.
+`desk.py PROGRAM [NAME ..]` runs the tests, or those whose names, or whose files' names, are given: calls, clients, kills,
+limits, operations, page, phone, proxy, roles, shift, shift_page, simulator, trouble. What can't be tried, for want of a
+package, a browser or the word `live`, is told in a line `skipped: WHAT, since WHY`. DESK_SEED draws other kills than those of
+each run.
 """
 
 import os
@@ -23,7 +24,7 @@ sys.path.insert(0, str(shared.TOP / "python"))
 from ridepool import words  # noqa: E402
 
 # Each part lists its tests as it is imported, in this order.
-from desk_parts import calls, clients, limits, operations, page, phone, proxy, roles, shift, shift_page, simulator, trouble  # noqa: E402, F401
+from desk_parts import calls, clients, kills, limits, operations, page, phone, proxy, roles, shift, shift_page, simulator, trouble  # noqa: E402, F401
 
 
 def chosen():
