@@ -9,10 +9,11 @@ import os
 import pathlib
 import random
 import re
+import shutil
 import signal
 import time
 
-from desk_parts.shared import LONG, PATIENCE, TOP, TOWN, Desk, audited, folder_for_days, inputs, test, until
+from desk_parts.shared import LONG, PATIENCE, TOP, TOWN, Desk, audited, desk, fails, folder_for_days, inputs, test, until
 
 SEED = int(os.environ.get("DESK_SEED", "67"))
 DAYS = 4  # desks that are killed side by side, each in a folder of its own
@@ -240,10 +241,10 @@ def killed(it, order):
 
 def killed_day(folder, moments, seed, pause=SHORT, **more):
     """A day whose desk is killed at these moments, and is closed at last. Gives what was told."""
-    rng, told, took, words = random.Random(seed), Told(), 1.0, [*inputs(TOWN), *LONG, "trip=3"]
+    rng, told, took = random.Random(seed), Told(), 1.0
     for moment in [*moments, None]:
-        began = time.monotonic()
-        it, words = Desk(folder, *words, waits_for=None, **more), []
+        has_begun, began = (folder / "day.json").exists(), time.monotonic()
+        it = Desk(folder, *([] if has_begun else [*inputs(TOWN), *LONG, "trip=3"]), waits_for=None, **more)
         try:
             if moment == "starting":
                 time.sleep(rng.random() * took)
@@ -272,7 +273,8 @@ def killed_day(folder, moments, seed, pause=SHORT, **more):
 
 def has_open_batch(folder):
     """Whether a batch has no plan in the transcript yet."""
-    text = (folder / "transcript").read_text()
+    path = folder / "transcript"
+    text = path.read_text() if path.exists() else ""
     return text.count(" sealed ") > text.count("\nend\n")
 
 
@@ -294,15 +296,29 @@ def forty_kills_at_drawn_moments_lose_nothing_answered():
     with contextlib.ExitStack() as folders, concurrent.futures.ThreadPoolExecutor(DAYS) as pool:
         days = []
         for number in range(DAYS):
-            folder, (first, *rest) = folders.enter_context(folder_for_days()), moments[number::DAYS]
-            drawn = [*rest, first] if first == "starting" else [first, *rest]
-            days.append(pool.submit(killed_day, folder, drawn, SEED + number))
+            folder = folders.enter_context(folder_for_days())
+            days.append(pool.submit(killed_day, folder, moments[number::DAYS], SEED + number))
         told = [day.result() for day in days]
     kills = sum((it.kills for it in told), collections.Counter())
     answered, sent = sum(len(it.answered) for it in told), sum(it.sent for it in told)
     print(f"  {answered} of {sent} calls were taken, and a batch was open at {sum(it.open for it in told)} of "
           f"{sum(kills.values())} kills; {time.monotonic() - began:.0f} s")
     assert kills == KILLS and all(it.answered for it in told), kills
+
+
+@test
+def a_day_whose_desk_was_killed_as_it_began_begins():
+    with folder_for_days() as folder:
+        folder.mkdir(parents=True)
+        shutil.copy(TOWN / "network.csv", folder)
+        for name in ("fleet.csv.part", "day.json.part"):
+            (folder / name).write_text("torn")
+        fails("words: bad value", *inputs(TOWN), "wait=8000", folder=folder)
+        assert {it.name for it in folder.iterdir() if it.suffix == ".csv"} == {"network.csv"}
+        with desk(*inputs(TOWN), folder=folder) as it:
+            it.gives("POST", "/rides", {"from": 2, "to": 4})
+        assert {it.name for it in folder.iterdir() if it.suffix == ".part"} == set()
+        audited(folder, 0)
 
 
 WRONG = """

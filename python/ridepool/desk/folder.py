@@ -33,6 +33,13 @@ def write_whole(path: pathlib.Path, text: str, mode: int = 0o666) -> None:
     sync_folder(path.parent)
 
 
+def copy_whole(given: str, path: pathlib.Path) -> None:
+    """Copies a file, which is there whole or not at all."""
+    part = path.with_name(path.name + ".part")
+    shutil.copyfile(given, part)
+    os.replace(part, path)
+
+
 def checksum_of(path: pathlib.Path) -> str:
     """The SHA-256 of a file; a word that is none where it can't be read."""
     try:
@@ -94,15 +101,18 @@ class Folder:
         raise Fault(f"{path}: not the description of a day")
 
     def begin(self, inputs: Mapping[str, str], description: Mapping[str, Any]) -> None:
-        """Begins a day: copies of its inputs, then its description. A file that is there already isn't overwritten."""
+        """Begins a day: copies of its inputs, then its description. A file that is there already isn't overwritten. A copy may
+        be there, since a desk may have been killed as the day began."""
         copies = {self.input(name): inputs[name] for name in INPUTS}
-        for path in (*copies, self.path / ROWS):
-            if path.exists():
+        there = [path for path in (*copies, self.path / ROWS) if path.exists()]
+        for path in there:
+            if path not in copies or path.read_bytes() != pathlib.Path(copies[path]).read_bytes():
                 raise Fault(f"{path}: the file is there already; a day begins in a folder of its own")
-        self.begun = [*copies, self.path / DESCRIPTION]
+        self.begun = [path for path in (*copies, self.path / DESCRIPTION) if path not in there]
         try:
-            for path, given in copies.items():
-                shutil.copyfile(given, path)
+            for path in copies:
+                if path not in there:
+                    copy_whole(copies[path], path)
             self.describe({**description, "inputs": {name: checksum_of(self.input(name)) for name in INPUTS}})
         except OSError:
             self.forget_unbegun()
