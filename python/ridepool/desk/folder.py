@@ -34,10 +34,15 @@ def write_whole(path: pathlib.Path, text: str, mode: int = 0o666) -> None:
 
 
 def copy_whole(given: str, path: pathlib.Path) -> None:
-    """Copies a file, which is there whole or not at all."""
+    """Copies a file that is there whole or not at all, whenever the machine stops."""
     part = path.with_name(path.name + ".part")
-    shutil.copyfile(given, part)
-    os.replace(part, path)
+    try:
+        shutil.copyfile(given, part)
+        with open(part, "rb+") as file:
+            os.fsync(file.fileno())
+        os.replace(part, path)
+    finally:
+        part.unlink(missing_ok=True)
 
 
 def checksum_of(path: pathlib.Path) -> str:
