@@ -574,6 +574,16 @@ def test_a_comparison_says_what_is_marked(tmp_path, capsys, monkeypatch):
     assert [row["marked"] for row in spread.read_rows(tmp_path / "policies.csv")] == [2]
 
 
+def test_policies_without_pandas(tmp_path):
+    """What is missing is said in one line, before anything is driven."""
+    lines = ("import sys", "sys.modules['pandas'] = None", f"sys.argv = ['policies.py', {str(tmp_path / 'out')!r}]",
+             "from ridepool.study.policies_command import main", "main()")
+    environment = {**os.environ, "PYTHONPATH": str(TOP / "python")}
+    ran = subprocess.run([sys.executable, "-c", "; ".join(lines)], capture_output=True, text=True, env=environment)
+    assert ran.returncode == 2 and ran.stderr.count("\n") == 1 and "has no pandas: apt-get install" in ran.stderr
+    assert not (tmp_path / "out").exists()
+
+
 def test_the_policies_of_the_guide():
     """The table has all policies on three seeds, none of them marked, and the picture's bars are as long as its means."""
     from ridepool.study import compared

@@ -1,7 +1,7 @@
-"""Compares policies on one city over several seeds: a table, and a figure."""
+"""Compares policies on one city over several seeds."""
 
 import os
-from typing import Any, Callable, List, Mapping, NamedTuple, Sequence, Tuple
+from typing import Any, Callable, List, Mapping, NamedTuple, Tuple
 
 import pandas as pd
 
@@ -16,12 +16,9 @@ from ridepool.policies.matching import OptimalMatching
 from ridepool.policies.simulation import simulate
 from ridepool.settings import Settings
 from ridepool.study.spread import HEADER, row_of
-from ridepool.words import Fault, need, number, run_tool, split_words
+from ridepool.words import number
 
-USAGE = ("use: %(prog)s OUT/ [vehicles=] [seats=] [seeds=] [wait=] [delay=] [every=] [requests=] [seconds=] [avenues=] "
-         "[streets=] [alone=]")
-CITY = ("requests", "seconds", "avenues", "streets", "alone")
-DRIVEN = ("vehicles", "seats", "seeds", "wait", "delay", "every")
+CITY = tuple(word for word in made_city.WORDS if word != "seed")
 CAPACITIES = (1, 2, 4, 10)
 
 Drive = Callable[[Network, Fleet, Requests, Settings], Day]
@@ -74,20 +71,3 @@ def compare(out: str, values: Mapping[str, str]) -> None:
         tables.write_table(os.path.join(out, "policies.csv"), HEADER, table)
         print(f"{row.name}, {row.seats} seats: {100 * float(table[-1][3]):.1f} % of requests served"
               f"{', MARKED: ' if marks else ''}{'; '.join(marks)}", flush=True)
-
-
-def convert(arguments: Sequence[str]) -> None:
-    """The tool."""
-    plain, values = split_words(arguments, (*CITY, *DRIVEN), USAGE)
-    if len(plain) != 1:
-        raise Fault(USAGE)
-    need("scipy", "matplotlib")
-    compare(plain[0], values)
-    from ridepool.draw import policies, style
-
-    style.write(policies.draw(os.path.join(plain[0], "policies.csv")), os.path.join(plain[0], "policies.svg"))
-
-
-def main() -> None:
-    """The command."""
-    run_tool(convert, USAGE)
