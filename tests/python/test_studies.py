@@ -570,6 +570,7 @@ def test_a_comparison_says_what_is_marked(tmp_path, capsys, monkeypatch):
     monkeypatch.setattr(compared, "rows", lambda seats: [compared.Row("nearest free vehicle", seats, compared.by(rp.NearestFree))])
     compared.compare(str(tmp_path), {"vehicles": "1", "seeds": "2", "requests": "25", "seconds": "300", "avenues": "4", "streets": "12"})
     said = capsys.readouterr().out
+    assert said.startswith("nearest free vehicle, 4 seats: ")
     assert "% of requests served, MARKED: seed 1: " in said and "; seed 2: " in said and "pool-full" in said
     assert [row["marked"] for row in spread.read_rows(tmp_path / "policies.csv")] == [2]
 

@@ -1,7 +1,7 @@
 """Compares policies on one city over several seeds."""
 
 import os
-from typing import Any, Callable, List, Mapping, NamedTuple, Tuple
+from typing import Any, Callable, List, Mapping, NamedTuple, Sequence, Tuple
 
 import pandas as pd
 
@@ -69,5 +69,10 @@ def compare(out: str, values: Mapping[str, str]) -> None:
         marks = [f"seed {seed}: {mark}" for seed, day in enumerate(days, 1) for mark in day.marks]
         table.append(row_of(row.name, row.seats, [day.measures() for day in days], sum(1 for day in days if day.marks)))
         tables.write_table(os.path.join(out, "policies.csv"), HEADER, table)
-        print(f"{row.name}, {row.seats} seats: {100 * float(table[-1][3]):.1f} % of requests served"
-              f"{', MARKED: ' if marks else ''}{'; '.join(marks)}", flush=True)
+        print(line_of(row, float(table[-1][HEADER.index("share")]), marks), flush=True)
+
+
+def line_of(row: Row, share: float, marks: Sequence[str]) -> str:
+    """What is said of a row."""
+    said = f"{row.name}, {row.seats} seat{'s' if row.seats > 1 else ''}: {100 * share:.1f} % of requests served"
+    return f"{said}{', MARKED: ' if marks else ''}{'; '.join(marks)}"
