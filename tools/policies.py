@@ -2,4 +2,4 @@
 import door
 
 if __name__ == "__main__":
-    door.open_to("ridepool.study.compared")
+    door.open_to("ridepool.study.policies_command")

@@ -10,6 +10,7 @@ import signal
 import subprocess
 import sys
 import time
+import xml.etree.ElementTree
 
 import pandas
 import pytest
@@ -20,9 +21,9 @@ pytest.importorskip("scipy")
 
 from ridepool.days.on_worker import NotHere  # noqa: E402
 from ridepool.days.one_day import NotDriven, Stopped, Task  # noqa: E402
-from ridepool.draw import service, study as study_picture  # noqa: E402
+from ridepool.draw import policies as policies_picture, service, study as study_picture  # noqa: E402
 from ridepool.inputs import tables  # noqa: E402
-from ridepool.study import command, workers  # noqa: E402
+from ridepool.study import command, spread, workers  # noqa: E402
 from ridepool.study.ground import ground_of  # noqa: E402
 from ridepool.study.kept import Kept, checksum, held  # noqa: E402
 from ridepool.study.plan import SETTINGS, Cell, Plan  # noqa: E402
@@ -182,7 +183,9 @@ def test_a_study_that_overflows(tmp_path):
 
 
 def test_old_tables_are_still_drawn():
-    found = study_picture.read_cells(str(TOP / "examples" / "study" / "cells.csv"))
+    found = study_picture.read_cells(str(TOP / "tests" / "tools" / "cells-1.3.csv"))
+    assert [(row["vehicles"], row["served"]) for row in found] == [
+        (100, "1003"), (500, "3682"), (500, "3498"), (500, "2984")]
     assert {row["mark"] for row in found} == {""} and {row["split"] for row in found} == {"nearest"}
 
 
@@ -517,5 +520,84 @@ def test_policies_are_compared(tmp_path):
     share = [day.measures()["share"] for day in days]
     found = table[(table["policy"] == "ridepool") & (table["seats"] == 4)].iloc[0]
     assert (found["share"], found["share_least"]) == (pytest.approx(sum(share) / 2, abs=1e-4), pytest.approx(min(share), abs=1e-4))
-    picture = compared.picture(str(tmp_path / "policies.csv"))
-    assert [len(axes.patches) for axes in picture.axes] == [8, 8, 8]
+    wait = [found[name] for name in ("mean_wait", "mean_wait_least", "mean_wait_most")]
+    waits = [day.measures()["mean_wait"] for day in days]
+    assert wait == [pytest.approx(value, abs=1e-4) for value in (sum(waits) / 2, min(waits), max(waits))]
+
+
+def policies_table(path, **changed):
+    """A table of two policies, with other values in its second row. The least is 1 below each mean, and the most 2 above."""
+    first = {name: at - 2 * name.endswith("_least") for at, name in enumerate(spread.HEADER)}
+    first.update(policy="nearest free vehicle", seats=4, seeds=3, marked=0)
+    rows = [first, {**first, "policy": "ridepool", "seats": 1, **changed}]
+    tables.write_table(path, spread.HEADER, [list(row.values()) for row in rows])
+    return str(path)
+
+
+def test_the_figure_of_policies(tmp_path):
+    """A bar is as long as the mean, and its line reaches from the least to the most."""
+    pytest.importorskip("matplotlib")
+    path = policies_table(tmp_path / "policies.csv", share=0.5, share_least=0.25, share_most=0.625)
+    axes = policies_picture.draw(path).axes
+    assert [[bar.get_width() for bar in it.patches] for it in axes] == [[300, 50], [6, 6], [12, 12]]
+    assert [bar.get_gid() for bar in axes[0].patches] == ["share-nearest-free-vehicle-4", "share-ridepool-1"]
+    ends = axes[0].collections[0].get_segments()[1]
+    assert ends.tolist() == [[25, 1], [62.5, 1]]
+    assert [it.get_text() for it in axes[0].get_yticklabels()] == ["nearest free vehicle, 4 seats", "ridepool, 1 seat"]
+    assert axes[0].yaxis_inverted()
+
+
+def test_marked_policies_are_hollow(tmp_path):
+    """Days whose figures must not be taken as they stand are told in the picture."""
+    pytest.importorskip("matplotlib")
+    axes = policies_picture.draw(policies_table(tmp_path / "policies.csv", marked=2)).axes
+    assert [it.get_text() for it in axes[0].get_yticklabels()][1] == "ridepool, 1 seat: 2 of 3 days marked"
+    assert [[bar.get_facecolor() == (1, 1, 1, 1) for bar in it.patches] for it in axes] == [[False, True]] * 3
+
+
+def test_other_tables_are_no_policies(tmp_path):
+    (tmp_path / "none.csv").write_text(",".join(spread.HEADER) + "\n")
+    for path in (TOP / "examples" / "study" / "cells.csv", tmp_path / "none.csv"):
+        with pytest.raises(Fault, match="not a table of policies.py"):
+            spread.read_rows(path)
+
+
+def test_a_comparison_says_what_is_marked(tmp_path, capsys, monkeypatch):
+    """More than one of a hundred requests refused: the line says so of each seed, and the table counts the days."""
+    from ridepool.study import compared
+
+    monkeypatch.setattr("ridepool.policies.simulation.MOST_WAITING", 2)
+    monkeypatch.setattr(compared, "rows", lambda seats: [compared.Row("nearest free vehicle", seats, compared.by(rp.NearestFree))])
+    compared.compare(str(tmp_path), {"vehicles": "1", "seeds": "2", "requests": "25", "seconds": "300", "avenues": "4", "streets": "12"})
+    said = capsys.readouterr().out
+    assert said.startswith("nearest free vehicle, 4 seats: ")
+    assert "% of requests served, MARKED: seed 1: " in said and "; seed 2: " in said and "pool-full" in said
+    assert [row["marked"] for row in spread.read_rows(tmp_path / "policies.csv")] == [2]
+
+
+def test_policies_without_pandas(tmp_path):
+    """What is missing is said in one line, before anything is driven."""
+    lines = ("import sys", "sys.modules['pandas'] = None", f"sys.argv = ['policies.py', {str(tmp_path / 'out')!r}]",
+             "from ridepool.study.policies_command import main", "main()")
+    environment = {**os.environ, "PYTHONPATH": str(TOP / "python")}
+    ran = subprocess.run([sys.executable, "-c", "; ".join(lines)], capture_output=True, text=True, env=environment)
+    assert ran.returncode == 2 and ran.stderr.count("\n") == 1 and "has no pandas: apt-get install" in ran.stderr
+    assert not (tmp_path / "out").exists()
+
+
+def test_the_policies_of_the_guide():
+    """The table has all policies on three seeds, none of them marked, and the picture's bars are as long as its means."""
+    from ridepool.study import compared
+
+    rows = spread.read_rows(TOP / "examples" / "study" / "policies.csv")
+    assert [(row["policy"], row["seats"]) for row in rows] == [(row.name, row.seats) for row in compared.rows(4)]
+    assert {(row["seeds"], row["marked"]) for row in rows} == {(3, 0)}
+    root = xml.etree.ElementTree.parse(TOP / "docs" / "pictures" / "policies.svg").getroot()
+    paths = {group.get("id"): group[0].get("d").split() for group in root.iter("{http://www.w3.org/2000/svg}g") if len(group)
+             and group[0].get("d")}
+    for measure in ("share", "mean_wait", "mean_in_car"):
+        means = [row[measure] for row in rows]
+        names = [f"{measure}-{row['policy'].replace(' ', '-')}-{row['seats']:.0f}" for row in rows]
+        drawn = [float(paths[name][4]) - float(paths[name][1]) for name in names]
+        longest = max(range(len(rows)), key=means.__getitem__)
+        assert [it / drawn[longest] for it in drawn] == [pytest.approx(it / means[longest], abs=1e-3) for it in means]

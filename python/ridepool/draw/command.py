@@ -1,5 +1,5 @@
 """Draws a printed report of ridepool: a day of its vehicles, the service of its batches, or one batch's map; or
-the figures of a study."""
+the figures of a study or of compared policies."""
 
 from typing import Any, List, Mapping, Sequence, Tuple
 
@@ -10,8 +10,8 @@ from ridepool.words import Fault, need, number, run_tool, split_words
 
 USAGE = ("use: %(prog)s REPORT day|service|batch=N [nodes=nodes.csv|made=1] [network=network.csv] "
          "[fleet=fleet.csv] [dark=1] OUT.svg|png|pdf, or %(prog)s cells.csv study [SETTING=VALUE ..] [dark=1] "
-         "OUT.svg|png|pdf")
-PICTURES = ("day", "service", "study")
+         "OUT.svg|png|pdf, or %(prog)s policies.csv policies [dark=1] OUT.svg|png|pdf")
+PICTURES = ("day", "service", "study", "policies")
 WORDS = ("batch", "nodes", "network", "fleet", "made", "dark")
 
 
@@ -30,6 +30,10 @@ def picture_of(kind: str, path: str, values: Mapping[str, str]) -> Any:
         from ridepool.draw import study
 
         return study.draw(path, values)
+    if kind == "policies":
+        from ridepool.draw import policies
+
+        return policies.draw(path)
     report = read_report(path)
     if kind == "day":
         from ridepool.draw import day

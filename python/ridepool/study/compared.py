@@ -1,7 +1,6 @@
-"""Compares policies on one city over several seeds: a table, and a figure."""
+"""Compares policies on one city over several seeds."""
 
 import os
-import statistics
 from typing import Any, Callable, List, Mapping, NamedTuple, Sequence, Tuple
 
 import pandas as pd
@@ -16,15 +15,11 @@ from ridepool.policies.known import CheapestInsertion, NearestFree, Policy, Ride
 from ridepool.policies.matching import OptimalMatching
 from ridepool.policies.simulation import simulate
 from ridepool.settings import Settings
-from ridepool.words import Fault, need, number, run_tool, split_words
+from ridepool.study.spread import HEADER, row_of
+from ridepool.words import number
 
-USAGE = ("use: %(prog)s OUT/ [vehicles=] [seats=] [seeds=] [wait=] [delay=] [every=] [requests=] [seconds=] [avenues=] "
-         "[streets=] [alone=]")
-CITY = ("requests", "seconds", "avenues", "streets", "alone")
-DRIVEN = ("vehicles", "seats", "seeds", "wait", "delay", "every")
-MEASURES = ("share", "mean_wait", "mean_delay", "mean_in_car", "aboard", "driven_a_vehicle")
+CITY = tuple(word for word in made_city.WORDS if word != "seed")
 CAPACITIES = (1, 2, 4, 10)
-HEADER = ("policy", "seats", "seeds", *(f"{name}{of}" for name in MEASURES for of in ("", "_least", "_most")), "marked")
 
 Drive = Callable[[Network, Fleet, Requests, Settings], Day]
 
@@ -60,14 +55,6 @@ def ground(out: str, seed: int, values: Mapping[str, str], every: int) -> "Tuple
     return net, Requests.from_frame(trips, every=every, until=int(values.get("seconds", "3600")))
 
 
-def cell_of(row: Row, days: Sequence[Day]) -> "List[Any]":
-    """A row of the table: each measure's mean over the seeds, with the least and the most."""
-    measures = [day.measures() for day in days]
-    columns: List[List[float]] = [[it[name] for it in measures] for name in MEASURES]
-    spread = [f"{value:.4f}" for found in columns for value in (statistics.fmean(found), min(found), max(found))]
-    return [row.name, row.seats, len(days), *spread, sum(1 for day in days if day.marks)]
-
-
 def compare(out: str, values: Mapping[str, str]) -> None:
     """Drives all days, and writes the table after each row, so that what was driven is there where the rest takes long."""
     vehicles, seats = number(values, "vehicles", 1, tables.MOST_VEHICLES, 100), number(values, "seats", 1, 10, 4)
@@ -79,38 +66,13 @@ def compare(out: str, values: Mapping[str, str]) -> None:
     for row in rows(seats):
         days = [row.drive(net, Fleet.drawn(net, vehicles, row.seats, seed), requests, settings)
                 for seed, (net, requests) in enumerate(grounds, 1)]
-        table.append(cell_of(row, days))
+        marks = [f"seed {seed}: {mark}" for seed, day in enumerate(days, 1) for mark in day.marks]
+        table.append(row_of(row.name, row.seats, [day.measures() for day in days], sum(1 for day in days if day.marks)))
         tables.write_table(os.path.join(out, "policies.csv"), HEADER, table)
-        print(f"{row.name}, {row.seats} seats: {100 * float(table[-1][3]):.1f} % of requests served", flush=True)
+        print(line_of(row, float(table[-1][HEADER.index("share")]), marks), flush=True)
 
 
-def picture(path: str) -> Any:
-    """The figure of a table: for each measure a bar for each row, with the least and the most over the seeds."""
-    from ridepool.draw import style
-
-    frame = pd.read_csv(path)
-    names = [f"{row.policy}, {row.seats} seats" for row in frame.itertuples()]
-    drawn = style.figure(10.0, 1.0 + 0.28 * len(names))
-    for at, (axes, name) in enumerate(zip(drawn.subplots(1, 3, sharey=True), ("share", "mean_wait", "mean_in_car"))):
-        spread = [frame[name] - frame[f"{name}_least"], frame[f"{name}_most"] - frame[name]]
-        axes.barh(names[::-1], frame[name][::-1], xerr=[it[::-1] for it in spread], color=style.SKY, gid=name)
-        axes.set_xlabel(("share of requests served", "mean wait, seconds", "mean in-car delay, seconds")[at])
-    drawn.suptitle(f"Mean, least and most over {frame['seeds'].iloc[0]} seeds", x=0.01, ha="left")
-    return drawn
-
-
-def convert(arguments: Sequence[str]) -> None:
-    """The tool."""
-    plain, values = split_words(arguments, (*CITY, *DRIVEN), USAGE)
-    if len(plain) != 1:
-        raise Fault(USAGE)
-    need("scipy", "matplotlib")
-    compare(plain[0], values)
-    from ridepool.draw import style
-
-    style.write(picture(os.path.join(plain[0], "policies.csv")), os.path.join(plain[0], "policies.svg"))
-
-
-def main() -> None:
-    """The command."""
-    run_tool(convert, USAGE)
+def line_of(row: Row, share: float, marks: Sequence[str]) -> str:
+    """What is said of a row."""
+    said = f"{row.name}, {row.seats} seat{'s' if row.seats > 1 else ''}: {100 * share:.1f} % of requests served"
+    return f"{said}{', MARKED: ' if marks else ''}{'; '.join(marks)}"
