@@ -162,7 +162,7 @@ stands_later last open_batch round (Some n) number is closed above =
     subst (λ r. StandsIn last open_batch r n) (sym is)
     (sym above.0, subst (IsAbove last) (sym above.0) above.1, omega (arith, above.0, above.2), closed)
 
-not_both : (yes : Bool) → yes ≡ false → IsTrue yes → ⊥
+pub not_both : (yes : Bool) → yes ≡ false → IsTrue yes → ⊥
 not_both true off on = let no : true ≡ false = off in cc
 not_both false off on = let no : false ≡ true = on in cc
 

@@ -35,6 +35,7 @@ use Rattle.std.proofs.Common.{
   append_assoc,
   arith,
 }
+use Rattle.std.specs.Option.{is_some}
 use Rattle.dispatch_engine.specs.outcome.Outcome.{IsGoodOutcome}
 use Rattle.dispatch_report.specs.Block.{block_line_text, block_lines}
 use Rattle.dispatch_report.specs.Entry.{entry_line}
@@ -87,6 +88,11 @@ lane_of _ = 0
 abbrev is_entry : NextLine → Type 0
 is_entry (EntryOf lane) = Unit {0}
 is_entry _ = ⊥
+
+-- a batch is open
+some_of : (o : Option Batch) → is_some o ≡ true → (b : Batch) × (o ≡ Some b)
+some_of None is = absurd (let no : false ≡ true = is in cc)
+some_of (Some b) is = (b, refl)
 
 module _ (settings : Settings) (roads : Roads) where
   -- what is left begins with a row of this line, or with a close of it
@@ -363,11 +369,13 @@ module _ (one_line : (x : NextLine) (line : List ℕ) → IsNextLine x line → 
       left_row free number now next last_now stands (Ok rest) takes =
           λ item. row_stays item free number now next rest.now last_now stands takes.0 takes.1 takes.2
 
-      pub refused_close : (batch : Batch) → open_batch ≡ Some batch → lane ≡ 0 → (got : Result (Bor (List ℕ)) AuditFault)
+      pub refused_close : is_some open_batch ≡ true → lane ≡ 0 → (got : Result (Bor (List ℕ)) AuditFault)
           → IfErr got (λ fault. fault ≢ OutOfMemory → (c : Batch) → open_batch ≡ Some c → IsNoClosing b c line ⊎ HasNoBlock settings roads c after)
           → IfErr got (λ fault. fault ≢ OutOfMemory → IsItem found lane line → IsNotLeft settings roads (stand last b open_batch notices) text)
-      refused_close batch is zero (Ok rest) none = tt
-      refused_close batch is zero (Err fault) none = λ fails item. no_close_left item batch is zero (none fails batch is)
+      refused_close is_open zero (Ok rest) none = tt
+      refused_close is_open zero (Err fault) none =
+          let known = some_of open_batch is_open in
+          λ fails item. no_close_left item known.0 known.1 zero (none fails known.0 known.1)
 
       pub left_close : lane ≡ 0 → (now : BookView) (next : Option Batch) (heard : List Notice) (got : Result (Bor (List ℕ)) AuditFault)
           → IfOk got (λ rest. (next ≡ None) × ((batch : Batch) × (open_batch ≡ Some batch) × TakesClose settings roads judged b now batch line after rest.now

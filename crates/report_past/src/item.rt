@@ -53,7 +53,7 @@ pub(crate) fn item_first<'a>(text: &[u8], rest: &'a [u8]) -> Result<Option<Item<
                 line: line_at(text, next.after),
             })
         },
-        NextLine::Round { .. } => Err(AuditFault::Entry {
+        NextLine::Round { number: _number } => Err(AuditFault::Entry {
             line: line_at(text, at),
         }),
     }

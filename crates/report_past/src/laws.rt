@@ -1,14 +1,12 @@
 //! Laws of days that go on: each is a call with no code, whose clause is the law.
-ghost use Rattle.std.specs.Prelude.{◌≡◌, ◌++◌, ℕ, List, All, None, Some, true};
+ghost use Rattle.std.specs.Prelude.{◌≡◌, ◌++◌, ℕ, List, All, Some};
 ghost use Rattle.dispatch_engine.specs.lanes.Run.{IsRun, position_after_run, state_after_run};
 ghost use Rattle.dispatch_engine.specs.outcome.Outcome.{IsGoodOutcome};
-ghost use Rattle.dispatch_report.specs.Round.{end_text, entry_text};
+ghost use Rattle.dispatch_report.specs.Round.{entry_text};
 ghost use Rattle.input_rows.specs.declared.script.script_row.ScriptRow.{ScriptRow};
-ghost use Rattle.live_dispatch.specs.Live.{IsBegunRun, journals_text, rows_rounds, rows_text};
+ghost use Rattle.live_dispatch.specs.Live.{journals_text, rows_rounds, rows_text};
 ghost use Rattle.pool_io.specs.Faults.{one_more};
-ghost use Rattle.report_audit.specs.report.Types.{JournalsAreTold};
 ghost use Rattle.report_past.specs.Past.{last_round};
-ghost use Rattle.report_past.specs.work.Left.{IsLeft};
 ghost use Rattle.report_past.specs.Told.{AreScriptRows, IsLater, IsToldRun, PastIsGood, close_of, closed_with};
 ghost use Rattle.request_book.specs.Book.{opening};
 ghost use Rattle.request_book.specs.register.Step.{step};
@@ -54,11 +52,4 @@ pub fn a_close_ends_its_past()
     ensures position { (settings : Settings) (roads : Roads) (vehicles : List Vehicle) (made : List Journal) (batch : Batch) (outcome : Outcome)
         → (state_after_run settings roads (opening vehicles) made).sealed ≡ Some batch
         → position_after_run 0 (closed_with (Some batch) outcome made) ≡ one_more (position_after_run 0 made) }
-{}
-
-/// What is left of a run at its beginning is its whole report.
-pub(crate) fn a_report_is_left()
-    ensures { (settings : Settings) (roads : Roads) (vehicles : List Vehicle) (rows : List ScriptRow) (made : List Journal)
-        → AreScriptRows 0 rows → IsBegunRun settings roads (opening vehicles) 0 (rows_rounds rows) made → JournalsAreTold made
-        → IsLeft settings roads None (opening vehicles) 0 (journals_text true (rows_rounds rows) made ++ end_text (position_after_run 0 made)) }
 {}

@@ -51,14 +51,14 @@ pub(crate) fn take_row(
 
 /// Whether a row's command may come in a lane: a seal in lane 0 alone, and nothing in lane 0 while a batch is open.
 fn may_come(lane: u8, command: &Command, is_open: bool) -> bool
-    ensures { IsTrue result ↔ (lane < 16) × MayStand lane command.now × (lane ≡ 0 → is_open ≡ false) }
+    ensures { IsTrue result ↔ ((lane < 16) × MayStand lane command.now × (lane ≡ 0 → is_open ≡ false)) }
 {
     may_stand(lane, command) && (lane != 0 || !is_open)
 }
 
 /// Whether a row's command may stand in a lane.
 fn may_stand(lane: u8, command: &Command) -> bool
-    ensures { IsTrue result ↔ (lane < 16) × MayStand lane command.now }
+    ensures { IsTrue result ↔ ((lane < 16) × MayStand lane command.now) }
 {
     match command {
         Command::Seal { .. } => lane == 0,

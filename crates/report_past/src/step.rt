@@ -1,5 +1,6 @@
 //! One item of a report, taken into the book.
-ghost use Rattle.std.specs.Prelude.{◌≡◌, ◌≢◌, ◌≤◌, ◌++◌, ◌∷◌, ◌⊎◌, ℕ, All, Contains, IfErr, IfOk, MatchOption, None, Some, length};
+ghost use Rattle.std.specs.Prelude.{◌≡◌, ◌≢◌, ◌≤◌, ◌++◌, ◌∷◌, ◌⊎◌, ℕ, All, Contains, IfErr, IfOk, IsTrue, MatchOption, None, Some, false, length, true};
+ghost use Rattle.std.specs.Option.{is_some};
 ghost use Rattle.report_audit.specs.declared.report.fault.AuditFault.TheVariants.{OutOfMemory as NoMemory};
 ghost use Rattle.report_past.specs.work.Left.{IsItem, IsNotLeft, StaysLeft};
 ghost use Rattle.report_past.specs.work.Reading.{IsAbove, StandsIn, stand, start_text};
@@ -48,11 +49,19 @@ pub(crate) fn take_item<'a, G: Gate>(
     let Some(number) = number_of(*last, open, item.round) else {
         return Err(start_fault(context.text, *last, &item));
     };
-    if item.lane == 0 && open.is_some() {
+    if is_closing(item.lane, open) {
         close_taken(rt, book, open, notices, &item, context)
     } else {
         row_taken(book, last, open, number, &item, context)
     }
+}
+
+/// Whether an entry of this lane is the close of the batch that is open.
+fn is_closing(lane: u8, open: &Option<Snapshot>) -> bool
+    ensures yes { IsTrue result → (lane ≡ 0) × (is_some open.now ≡ true) }
+    ensures no { result ≡ false → lane ≡ 0 → open.now ≡ None }
+{
+    open.is_some() && lane == 0
 }
 
 /// The round in which an item stands: the last, or a later one that begins before it while no batch is open.

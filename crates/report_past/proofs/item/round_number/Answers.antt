@@ -1,0 +1,18 @@
+use Rattle.std.proofs.Common.{subst}
+use Rattle.report_audit.specs.declared.lines.next.NextLine.{NextLine}
+use Rattle.report_audit.specs.lines.Next.{IsNextLine}
+use Rattle.report_past.proofs.ItemLeftLemmas.{no_done, no_entry}
+use Rattle.report_past.proofs.item.round_number.Goals as goal
+
+pub returns-in-Some-Round : goal.returns-in-Some-Round
+returns-in-Some-Round c = subst (λ (x : NextLine). IsNextLine x c.args.line.now) c.in-Some-Round.field-0-is c.in-Some-Round.ensures
+
+pub returns-in-Some-Done : goal.returns-in-Some-Done
+returns-in-Some-Done c = λ n is.
+    no_done c.a_line_is_of_one_kind.ensures c.args.line.now n is c.in-Some-Done.entries
+    (subst (λ (x : NextLine). IsNextLine x c.args.line.now) c.in-Some-Done.field-0-is c.in-Some-Done.ensures)
+
+pub returns-in-Some-Entry : goal.returns-in-Some-Entry
+returns-in-Some-Entry c = λ n is.
+    no_entry c.a_line_is_of_one_kind.ensures c.args.line.now n is c.in-Some-Entry.lane
+    (subst (λ (x : NextLine). IsNextLine x c.args.line.now) c.in-Some-Entry.field-0-is c.in-Some-Entry.ensures)
