@@ -178,9 +178,9 @@ front_no_end batch outcome =
     (answer_no_end outcome.answer)
 
 is_end_is : (t : List ℕ) → is_end t ≡ true → t ≡ codes "end"
-is_end_is [] h = cc
-is_end_is (a ∷ []) h = cc
-is_end_is (a ∷ b ∷ []) h = cc
+is_end_is [] h = let no : false ≡ true = h in cc
+is_end_is (a ∷ []) h = let no : false ≡ true = h in cc
+is_end_is (a ∷ b ∷ []) h = let no : false ≡ true = h in cc
 is_end_is (a ∷ b ∷ c ∷ []) h = grind (arith, nat_tests, h)
 is_end_is (a ∷ b ∷ c ∷ d ∷ t) h = absurd (let no : false ≡ true = sym (long_no_end (a ∷ b ∷ c ∷ d ∷ t) (omega arith)) ∙ h in cc)
 

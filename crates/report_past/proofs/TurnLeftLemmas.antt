@@ -254,7 +254,7 @@ module _ (one_line : (x : NextLine) (line : List ℕ) → IsNextLine x line → 
         start : found ≡ None
 
       close_turn : (batch : Batch) → open_batch ≡ Some batch → lane ≡ 0 → (more : List ℕ) → Turn more → CloseLeft batch more
-      close_turn batch is zero_lane more (Turns.row number e stands may within free is_entry replies behind line_is own) =
+      close_turn batch is zero_lane more (Turns.row number e stands may within free told_entry replies behind line_is own) =
           absurd (let no : None ≡ Some batch = sym (free (own ∙ zero_lane)) ∙ told.sealed ∙ is in cc)
       close_turn batch is zero_lane more (Turns.close other outcome rest sealed fits good behind line_is tail_is zero start) =
           let same : other ≡ batch = ap (λ o. unwrap_or o batch) (sym sealed ∙ told.sealed ∙ is) in
