@@ -37,11 +37,11 @@ module _ (line : List ℕ) (found : Option (ℕ × Command))
       own : (e : Entry) → IsNextRow book open_batch line e → (e.lane ≡ lane) × (e.command ≡ command)
       own e next = only_row lane command is (next_position book.first book.entries) e next.told (no_close e.lane e.command next.stands) next.line_is
 
-      pub unfit : (yes is_open : Bool) → is_open ≡ is_some open_batch → IsTrue yes ↔ ((lane < 16) × MayStand lane command × (lane ≡ 0 → is_open ≡ false))
-          → yes ≡ false → (e : Entry) → IsNextRow book open_batch line e → ⊥
-      unfit yes is_open open_is may off e next =
+      pub unfit : (said is_open : Bool) → is_open ≡ is_some open_batch → IsTrue said ↔ ((lane < 16) × MayStand lane command × (lane ≡ 0 → is_open ≡ false))
+          → said ≡ false → (e : Entry) → IsNextRow book open_batch line e → ⊥
+      unfit said is_open open_is may off e next =
           let same = own e next in
-          not_both yes off (may.1 (
+          not_both said off (may.1 (
             subst (λ l. l < 16) same.0 next.within,
             subst (λ l. MayStand l command) same.0 (subst (MayStand e.lane) same.1 next.stands),
             λ zero. open_is ∙ ap is_some (next.free (same.0 ∙ zero)),

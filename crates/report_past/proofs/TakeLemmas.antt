@@ -114,12 +114,12 @@ plain_block : (command : Command) (reply : Reply) → IsNoClose command → entr
 plain_block (Close batch outcome) reply plain = absurd plain
 plain_block _ reply plain = refl
 
-row_text : (position : ℕ) (e : Entry) → IsNoClose e.command → entry_text true position e ≡ entry_line position e ++ 10 ∷ []
+pub row_text : (position : ℕ) (e : Entry) → IsNoClose e.command → entry_text true position e ≡ entry_line position e ++ 10 ∷ []
 row_text position e plain =
     ap (λ ls. lines_text ((entry_line position e ∷ []) ++ ls)) (plain_block e.command e.reply plain)
     ∙ sym (append-nil (lines_text (entry_line position e ∷ []))) ∙ one_text (entry_line position e) []
 
-close_text : (position : ℕ) (batch : Batch) (outcome : Outcome) (rest : List ℕ)
+pub close_text : (position : ℕ) (batch : Batch) (outcome : Outcome) (rest : List ℕ)
     → entry_text true position (close_of batch outcome) ++ rest ≡ entry_line position (close_of batch outcome) ++ 10 ∷
     (lines_text (block_lines true batch.number outcome) ++ rest)
 close_text position batch outcome rest = first_line (entry_line position (close_of batch outcome)) (block_lines true batch.number outcome) rest
@@ -162,7 +162,7 @@ stands_later last open_batch round (Some n) number is closed above =
     subst (λ r. StandsIn last open_batch r n) (sym is)
     (sym above.0, subst (IsAbove last) (sym above.0) above.1, omega (arith, above.0, above.2), closed)
 
-pub not_both : (yes : Bool) → yes ≡ false → IsTrue yes → ⊥
+pub not_both : (said : Bool) → said ≡ false → IsTrue said → ⊥
 not_both true off on = let no : true ≡ false = off in cc
 not_both false off on = let no : false ≡ true = on in cc
 
@@ -182,8 +182,8 @@ pub tells_none : {E : Type 0} (told : Result Bool E) (old new : BookView) (lane 
     → IsApplied old lane command reply new → copy ≡ command → position ≡ next_position old.first old.entries
     → IfOk told (λ yes. yes ≡ false → line ≡ entry_line (next_position old.first old.entries)
     (record { lane = lane; command = command; reply = (step old.nodes old.wait old.state command).1 }) → ⊥)
-tells_none (Ok yes) old new lane command copy reply line position is applied same at =
-    λ off line_is. not_both yes off (is.1 (line_is ∙ (λ i. entry_line (sym at i)
+tells_none (Ok said) old new lane command copy reply line position is applied same at =
+    λ off line_is. not_both said off (is.1 (line_is ∙ (λ i. entry_line (sym at i)
     (record { lane = lane; command = sym same i; reply = sym (ap (λ p. p.1) applied.stepped) i }))))
 tells_none (Err e) old new lane command copy reply line position is applied same at = tt
 
@@ -194,12 +194,12 @@ pub tells_close : {E : Type 0} (told : Result Bool E) (line : List ℕ) (positio
 tells_close (Ok tells) line position batch some is = λ outcome. is
 tells_close (Err e) line position batch some is = tt
 
-pub no_closing : (yes : Bool) (book : BookView) (batch : Batch) (line : List ℕ) (position number : ℕ) → number ≡ batch.number
+pub no_closing : (said : Bool) (book : BookView) (batch : Batch) (line : List ℕ) (position number : ℕ) → number ≡ batch.number
     → position ≡ next_position book.first book.entries
-    → ((outcome : Outcome) → IsTrue yes ↔ (line ≡ entry_line position (record { lane = 0; command = Close number outcome; reply = Closed })))
-    → yes ≡ false → IsNoClosing book batch line
-no_closing yes book batch line position number same at is off outcome line_is =
-    not_both yes off ((is outcome).1 (line_is ∙ (λ i. entry_line (sym at i) (record { lane = 0; command = Close (sym same i) outcome; reply = Closed }))))
+    → ((outcome : Outcome) → IsTrue said ↔ (line ≡ entry_line position (record { lane = 0; command = Close number outcome; reply = Closed })))
+    → said ≡ false → IsNoClosing book batch line
+no_closing said book batch line position number same at is off outcome line_is =
+    not_both said off ((is outcome).1 (line_is ∙ (λ i. entry_line (sym at i) (record { lane = 0; command = Close (sym same i) outcome; reply = Closed }))))
 
 -- no batch is open
 pub none_of : (open_batch : Option Batch) → is_some open_batch ≡ false → open_batch ≡ None

@@ -6,7 +6,7 @@ use Rattle.report_past.proofs.close.take_close.Goals as goal
 
 pub returns-then-not-branch-clause-close : goal.returns-then-not-branch-clause-close
 returns-then-not-branch-clause-close g c =
-    no_closing c.in_ok-is_close_line.val c.args.book.now c.args.snapshot.now c.args.line.now c.next_position-position.result c.snapshot.inside.batch
+    no_closing c.in_ok-is_close_line.field-0 c.args.book.now c.args.snapshot.now c.args.line.now c.next_position-position.result c.snapshot.inside.batch
     (ap (λ (b : Batch). b.number) c.snapshot.view_is) c.next_position-position.ensures c.in_ok-is_close_line.ensures c.if-not-branch.true
 
 pub returns-in_ok-notices-in-Ok-clause-close : goal.returns-in_ok-notices-in-Ok-clause-close

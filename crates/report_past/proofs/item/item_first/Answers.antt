@@ -15,7 +15,7 @@ returns-then-is_empty-clause-found c =
 pub returns-in_err-next-clause-refused : goal.returns-in_err-next-clause-refused
 returns-in_err-next-clause-refused c =
     let p = err_from_is_err_and c.from_residual.result c.from_residual.ensures.1 in
-    let some = λ (none : c.round_first-round.result.1.now ≡ []). grind (arith, c.is_empty.ensures, c.if-is_empty.false, ap length none) in
+    let some : c.round_first-round.result.1.now ≡ [] → ⊥ = λ none. grind (arith, c.is_empty.ensures, c.if-is_empty.false, ap length none) in
     rw p.1 (no_next c.a_line_between_blocks_has_no_feed.ensures c.a_line_is_of_one_kind.ensures c.args.rest.now c.round_first-round.result.1.now
     c.round_first-round.result.0 c.round_first-round.ensures.start c.round_first-round.ensures.low c.round_first-round.ensures.none some c.in_err-next.ensures.none)
 
@@ -34,7 +34,7 @@ returns-then-is_empty-2-clause-found c =
 
 pub returns-else-is_empty-2-clause-refused : goal.returns-else-is_empty-2-clause-refused
 returns-else-is_empty-2-clause-refused c =
-    let some = λ (none : c.in_ok-next.next.after.now ≡ []). grind (arith, c.is_empty-in-Done.ensures, c.if-is_empty-2.false, ap length none) in
+    let some : c.in_ok-next.next.after.now ≡ [] → ⊥ = λ none. grind (arith, c.is_empty-in-Done.ensures, c.if-is_empty-2.false, ap length none) in
     let is = subst (λ (x : NextLine). IsNextLine x c.in_ok-next.next.line.now) c.in-Done.is c.in_ok-next.ensures.first.2 in
     bad_done c.a_line_between_blocks_has_no_feed.ensures c.a_line_is_of_one_kind.ensures c.args.rest.now c.round_first-round.result.1.now
     c.round_first-round.result.0 c.round_first-round.ensures.start c.round_first-round.ensures.low c.round_first-round.ensures.none

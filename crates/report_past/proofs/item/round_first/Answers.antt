@@ -9,10 +9,10 @@ returns-in-Some-round_number-clause-start c =
 pub returns-in-Some-round_number-clause-low : goal.returns-in-Some-round_number-clause-low
 returns-in-Some-round_number-clause-low c = c.in-Some-round_number.ensures.0
 
-pub returns-in-None-clause-none : goal.returns-in-None-clause-none
-returns-in-None-clause-none c = λ _.
+pub returns-in-None-round_number-clause-none : goal.returns-in-None-round_number-clause-none
+returns-in-None-round_number-clause-none c = λ _.
     no_round_first c.a_line_between_blocks_has_no_feed.ensures c.args.text.now c.in-Some.line.now c.in-Some.after.now c.in-Some.ensures.0
-    c.in-Some.ensures.1 c.in-None.ensures
+    c.in-Some.ensures.1 c.in-None-round_number.ensures
 
-pub returns-in-None-2-clause-none : goal.returns-in-None-2-clause-none
-returns-in-None-2-clause-none c = λ _. no_round_cut c.args.text.now c.in-None-2.ensures
+pub returns-in-None-clause-none : goal.returns-in-None-clause-none
+returns-in-None-clause-none c = λ _. no_round_cut c.args.text.now c.in-None.ensures

@@ -35,23 +35,23 @@ items-preserved g c =
           (start_text c.in-Ok-Some.item.round ++ (c.in-Ok-Some.item.line.now ++ 10 ∷ c.in-Ok-Some.item.after.now)) c.in-Ok.after.now is.0 (c.in-Ok.ensures.left is.1),
     )
 
-pub returns-in-Err-clause-refused : goal.returns-in-Err-clause-refused
-returns-in-Err-clause-refused g c = λ fails.
+pub returns-in-Err-take_item-clause-refused : goal.returns-in-Err-take_item-clause-refused
+returns-in-Err-take_item-clause-refused g c = λ fails.
     let is = rw c.in-Ok-Some.field-0-is at c.in-Ok-Some.ensures.found in
     refused_on c.args.context.now.settings.now c.args.context.now.network.now
     (stand c.args.last.now c.args.book.now c.args.open.now c.args.notices.now.items) (stand c.items.last c.items.book c.items.open c.items.notices.items)
     c.args.context.now.text.now c.items.rest.now c.items.invariant.1
-    (start_text c.in-Ok-Some.item.round ++ (c.in-Ok-Some.item.line.now ++ 10 ∷ c.in-Ok-Some.item.after.now)) is.0 (c.in-Err.ensures.refused fails is.1)
+    (start_text c.in-Ok-Some.item.round ++ (c.in-Ok-Some.item.line.now ++ 10 ∷ c.in-Ok-Some.item.after.now)) is.0 (c.in-Err-take_item.ensures.refused fails is.1)
 
 pub returns-in-Ok-None-clause-reached : goal.returns-in-Ok-None-clause-reached
 returns-in-Ok-None-clause-reached g c =
     let dropped = rw c.in-Ok-None.field-0-is at c.in-Ok-None.ensures.found in (dropped, c.items.invariant.0)
 
-pub returns-in-Err-2-clause-refused : goal.returns-in-Err-2-clause-refused
-returns-in-Err-2-clause-refused g c = λ fails.
+pub returns-in-Err-clause-refused : goal.returns-in-Err-clause-refused
+returns-in-Err-clause-refused g c = λ fails.
     refused_first c.args.context.now.settings.now c.args.context.now.network.now
     (stand c.args.last.now c.args.book.now c.args.open.now c.args.notices.now.items) (stand c.items.last c.items.book c.items.open c.items.notices.items)
-    c.args.context.now.text.now c.items.rest.now c.items.invariant.1 c.in-Err-2.ensures.refused
+    c.args.context.now.text.now c.items.rest.now c.items.invariant.1 c.in-Err.ensures.refused
 
 pub returns-clause-reached : goal.returns-clause-reached
 returns-clause-reached g c =
