@@ -112,8 +112,8 @@ no_end_behind : (f : List ℕ) → is_end (f ++ codes " closed") ≡ false
 no_end_behind f = long_no_end (f ++ codes " closed") (omega (arith, length-append f (codes " closed")))
 
 open_behind : (inside : Bool) (line : List ℕ) → opens line ≡ true → is_end line ≡ false → after_line inside line ≡ true
-open_behind true line opened no = ap not no
-open_behind false line opened no = opened
+open_behind true line opened plain = ap not plain
+open_behind false line opened plain = opened
 
 pub open_after : (inside : Bool) (p : ℕ) (batch : OneBatch) (outcome : Outcome) → after_line inside (entry_line p (close_of batch outcome)) ≡ true
 open_after inside p batch outcome =
@@ -127,8 +127,8 @@ NotEnd End = ⊥
 NotEnd _ = Unit {0}
 
 none_end : {X : Type 0} (f : X → BlockLine) → ((x : X) → NotEnd (f x)) → (xs : List X) → All NotEnd (map f xs)
-none_end f no [] = All-nil NotEnd
-none_end f no (x ∷ xs) = All-cons NotEnd (f x) (map f xs) (no x) (none_end f no xs)
+none_end f plain [] = All-nil NotEnd
+none_end f plain (x ∷ xs) = All-cons NotEnd (f x) (map f xs) (plain x) (none_end f plain xs)
 
 tree_no_end : (rows : List TripRowLine) (n : Node) → NotEnd (tree_line rows n)
 tree_no_end rows (node.Branch vehicle row) = tt
@@ -136,7 +136,7 @@ tree_no_end rows (node.Leaf multipliers) = tt
 tree_no_end rows node.Dead = tt
 
 one_no_end : (x : BlockLine) → NotEnd x → All NotEnd (x ∷ [])
-one_no_end x no = All-cons NotEnd x [] no (All-nil NotEnd)
+one_no_end x plain = All-cons NotEnd x [] plain (All-nil NotEnd)
 
 answer_no_end : (a : Answer) → All NotEnd (lines_of_answer true a)
 answer_no_end answer.Overflow = one_no_end variant.Overflow tt
@@ -179,27 +179,27 @@ front_no_end batch outcome =
     (answer_no_end outcome.answer)
 
 is_end_is : (t : List ℕ) → is_end t ≡ true → t ≡ codes "end"
-is_end_is [] h = let no : false ≡ true = h in cc
-is_end_is (a ∷ []) h = let no : false ≡ true = h in cc
-is_end_is (a ∷ b ∷ []) h = let no : false ≡ true = h in cc
+is_end_is [] h = let plain : false ≡ true = h in cc
+is_end_is (a ∷ []) h = let plain : false ≡ true = h in cc
+is_end_is (a ∷ b ∷ []) h = let plain : false ≡ true = h in cc
 is_end_is (a ∷ b ∷ c ∷ []) h = grind (arith, nat_tests, h)
-is_end_is (a ∷ b ∷ c ∷ d ∷ t) h = absurd (let no : false ≡ true = sym (long_no_end (a ∷ b ∷ c ∷ d ∷ t) (omega arith)) ∙ h in cc)
+is_end_is (a ∷ b ∷ c ∷ d ∷ t) h = absurd (let plain : false ≡ true = sym (long_no_end (a ∷ b ∷ c ∷ d ∷ t) (omega arith)) ∙ h in cc)
 
 no_true : (b : Bool) → (b ≡ true → ⊥) → b ≡ false
-no_true false no = refl
-no_true true no = absurd (no refl)
+no_true false plain = refl
+no_true true plain = absurd (plain refl)
 
 module _ (one : (x : BlockLine) → IsBlockLine x → is_one_line (block_line_text x) ≡ true)
     (ends_once : (x : BlockLine) → IsBlockLine x → block_line_text x ≡ codes "end" → x ≡ End) where
   not_end : (x : BlockLine) → IsBlockLine x → NotEnd x → is_end (block_line_text x) ≡ false
-  not_end x is no = no_true (is_end (block_line_text x)) (λ h. subst NotEnd (ends_once x is (is_end_is (block_line_text x) h)) no)
+  not_end x is plain = no_true (is_end (block_line_text x)) (λ h. subst NotEnd (ends_once x is (is_end_is (block_line_text x) h)) plain)
 
   lines_block : (front : List BlockLine) → All IsBlockLine (front ++ End ∷ []) → All NotEnd front → Blocks (map block_line_text (front ++ End ∷ []))
-  lines_block [] are no = (refl, inl (refl, refl))
-  lines_block (x ∷ front) are no =
+  lines_block [] are plain = (refl, inl (refl, refl))
+  lines_block (x ∷ front) are plain =
       let is = All-head IsBlockLine x (front ++ End ∷ []) are in (
         one x is,
-        inr (not_end x is (All-head NotEnd x front no), lines_block front (All-tail IsBlockLine x (front ++ End ∷ []) are) (All-tail NotEnd x front no)),
+        inr (not_end x is (All-head NotEnd x front plain), lines_block front (All-tail IsBlockLine x (front ++ End ∷ []) are) (All-tail NotEnd x front plain)),
       )
 
   pub block_of : (batch : ℕ) (outcome : Outcome) → FitsTypes batch outcome → Blocks (block_lines true batch outcome)

@@ -16,6 +16,10 @@ use Rattle.request_book.specs.declared.values.journal.Entry.{Entry}
 use Rattle.rider_limits.specs.declared.settings.Settings.{Settings}
 use Rattle.road_network.specs.Roads.{Roads}
 
+abbrev IsNone : Option (ℕ × Command) → Type 0
+IsNone None = Unit {0}
+IsNone (Some read) = ⊥
+
 module _ (line : List ℕ) (found : Option (ℕ × Command))
     (exact : (position : ℕ) (e : Entry) → IsEntry position e → IsNoClose e.command → line ≡ entry_line position e → found ≡ Some (e.lane, e.command)) where
   module _ (lane : ℕ) (command : Command) (is : found ≡ Some (lane, command)) where
@@ -29,9 +33,7 @@ module _ (line : List ℕ) (found : Option (ℕ × Command))
   module _ (book : BookView) (open_batch : Option Batch) where
     pub unread : found ≡ None → (e : Entry) → IsNextRow book open_batch line e → ⊥
     unread none e next =
-        let no : None ≡ Some (e.lane, e.command) = sym none ∙
-        exact (next_position book.first book.entries) e next.told (no_close e.lane e.command next.stands) next.line_is in
-        cc
+        subst IsNone (sym none ∙ exact (next_position book.first book.entries) e next.told (no_close e.lane e.command next.stands) next.line_is) tt
 
     module _ (lane : ℕ) (command : Command) (is : found ≡ Some (lane, command)) where
       own : (e : Entry) → IsNextRow book open_batch line e → (e.lane ≡ lane) × (e.command ≡ command)

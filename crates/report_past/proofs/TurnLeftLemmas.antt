@@ -204,7 +204,7 @@ module _ (one_line : (x : NextLine) (line : List ℕ) → IsNextLine x line → 
       last_known : (read : List ℕ) (s : Stand) (batch : Batch) → IsReading settings roads vehicles judged read s → s.open_batch ≡ Some batch →
           (n : ℕ) × (s.last ≡ Some n)
       last_known _ _ batch (IsReading.at_start c o ns start) is = absurd (let no : None ≡ Some batch = sym start.closed ∙ is in cc)
-      last_known _ _ batch (IsReading.in_round before front row rows done j number c o ns is_in) is = (number, refl)
+      last_known _ _ batch (IsReading.in_round before front first rows done j number c o ns is_in) is = (number, refl)
 
       same_number : (o : Option ℕ) (m n : ℕ) → StandsIn last open_batch o m → StandsIn last open_batch o n → m ≡ n
       same_number None m n is also = ap (λ l. unwrap_or l 0) (sym is ∙ also)
