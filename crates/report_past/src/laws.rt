@@ -1,5 +1,5 @@
 //! Laws of days that go on: each is a call with no code, whose clause is the law.
-ghost use Rattle.std.specs.Prelude.{◌≡◌, ◌++◌, ℕ, List, All, Some, true};
+ghost use Rattle.std.specs.Prelude.{◌≡◌, ◌++◌, ℕ, List, All, Some};
 ghost use Rattle.dispatch_engine.specs.lanes.Run.{IsRun, position_after_run, state_after_run};
 ghost use Rattle.dispatch_engine.specs.outcome.Outcome.{IsGoodOutcome};
 ghost use Rattle.dispatch_report.specs.Round.{entry_text};
@@ -52,9 +52,4 @@ pub fn a_close_ends_its_past()
     ensures position { (settings : Settings) (roads : Roads) (vehicles : List Vehicle) (made : List Journal) (batch : Batch) (outcome : Outcome)
         → (state_after_run settings roads (opening vehicles) made).sealed ≡ Some batch
         → position_after_run 0 (closed_with (Some batch) outcome made) ≡ one_more (position_after_run 0 made) }
-{}
-
-/// Temporary.
-pub(crate) fn a_check()
-    ensures { true ≡ true }
 {}
