@@ -46,9 +46,10 @@
 //! ```
 //!
 //! Main clauses: `audit`: `accepted`, `refused`, `fault`, `sound`, `only`; the laws `one_fault` and `no_fault`;
-//! `audit_block`: `good`, `lines`, `only`, `none`, `fault`; `read_outcome`: `told`, `lines`; the law `a_text_is_refused_in_one_way`; of lines
-//! `read_head`: `read`, `only`, `none`, `fault`; `read_block`; `read_next`; the laws `a_line_says_one_thing`,
-//! `a_text_begins_with_one_block` and `a_text_has_one_block_fault`; of outcomes `judge`: `points`, `good`;
+//! `audit_block`: `good`, `lines`, `only`, `none`, `fault`; `read_outcome`: `told`, `lines`, `only`, `none`; the law
+//! `a_text_is_refused_in_one_way`; of lines `read_head`: `read`, `only`, `none`, `fault`; `read_block`; `read_next`;
+//! `read_command`: `no_close`, `exact`; the laws `a_line_says_one_thing`, `a_line_between_blocks_has_no_feed`,
+//! `a_block_ends_once`: `one`, `end`, `a_text_begins_with_one_block` and `a_text_has_one_block_fault`; of outcomes `judge`: `points`, `good`;
 //! `shows_bound`, `is_close`, `is_fair` and `is_best_near`: of each its one clause; `a_batch_settles_in_one_way`;
 //! `a_batch_has_one_graph_of_each_kind`: `vehicles`, `riders`, `trips`; `a_batch_has_rows_or_too_many`;
 //! `a_good_outcome_has_one_plan`.
@@ -77,8 +78,9 @@ pub use lines::command::read_command;
 pub use lines::head::{SettingsText, read_head, read_settings, read_sizes};
 pub use lines::head_fault::HeadFault;
 pub use lines::line_laws::{
-    a_block_has_no_fault, a_line_is_of_one_kind, a_line_says_one_thing,
-    a_text_begins_with_one_block, a_text_has_one_block_fault, an_outcome_prints_a_block,
+    a_block_ends_once, a_block_has_no_fault, a_line_between_blocks_has_no_feed,
+    a_line_is_of_one_kind, a_line_says_one_thing, a_text_begins_with_one_block,
+    a_text_has_one_block_fault, an_outcome_prints_a_block,
 };
 pub use lines::lists::{read_late, read_leaf, read_row, read_trip};
 pub use lines::next::{NextLine, read_next};
