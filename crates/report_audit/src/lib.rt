@@ -49,7 +49,7 @@
 //! `audit_block`: `good`, `lines`, `only`, `none`, `fault`; `read_outcome`: `told`, `lines`, `only`, `none`; the law
 //! `a_text_is_refused_in_one_way`; of lines `read_head`: `read`, `only`, `none`, `fault`; `read_block`; `read_next`;
 //! `read_command`: `no_close`, `exact`; the laws `a_line_says_one_thing`, `a_line_between_blocks_has_no_feed`,
-//! `a_block_ends_once`: `one`, `end`, `a_text_begins_with_one_block` and `a_text_has_one_block_fault`; of outcomes `judge`: `points`, `good`;
+//! `a_block_ends_once`: `one`, `last`, `a_text_begins_with_one_block` and `a_text_has_one_block_fault`; of outcomes `judge`: `points`, `good`;
 //! `shows_bound`, `is_close`, `is_fair` and `is_best_near`: of each its one clause; `a_batch_settles_in_one_way`;
 //! `a_batch_has_one_graph_of_each_kind`: `vehicles`, `riders`, `trips`; `a_batch_has_rows_or_too_many`;
 //! `a_good_outcome_has_one_plan`.

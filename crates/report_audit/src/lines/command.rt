@@ -24,7 +24,7 @@ pub fn read_command(line: &[u8]) -> Option<(u8, Command)>
     ensures no_close { IfSome result (λ told. IsNoClose told.1) }
     ensures exact { (position : ℕ) (e : Entry) → IsEntry position e → IsNoClose e.command → line.now ≡ entry_line position e → result ≡ Some (e.lane, e.command) }
 {
-    let (_position, after) = number_first(line, u64::MAX)?;
+    let (_, after) = number_first(line, u64::MAX)?;
     let (lane, told) = numbered_first(after, b" ", u64::from(u8::MAX))?;
     let command = command_first(told)?;
     Some((lane as u8, command))
@@ -99,13 +99,13 @@ fn four_first(text: &[u8]) -> Option<(((u64, u64), (u64, u64)), &[u8])>
         (λ r. BeginsWith (both_texts (both_texts (numbered (codes " submit ")) spaced) (both_texts spaced spaced)) (BothAre (BothAre IsId IsId) (BothAre IsId IsId)) text.now r.0 r.1.now) }
 {
     let (ids, after) = pair_first(text, b" submit ", ID_MOST, ID_MOST)?;
-    let (goal, rest) = pair_first(after, b" ", ID_MOST, ID_MOST)?;
-    Some(((ids, goal), rest))
+    let (next, rest) = pair_first(after, b" ", ID_MOST, ID_MOST)?;
+    Some(((ids, next), rest))
 }
 
 /// The party that a request tells behind its numbers.
 fn party_first(text: &[u8]) -> Party
-    ensures exact { (party : ℕ) (reply : Reply) → 1 ≤ party → party ≤ 6 → text.now ≡ party_text party ++ spaced_reply reply → result ≡ party }
+    ensures { (party : ℕ) (reply : Reply) → 1 ≤ party → party ≤ 6 → text.now ≡ party_text party ++ spaced_reply reply → result ≡ party }
 {
     match numbered_first(text, b" ", 6) {
         Some((persons, _)) => Party::new(persons).unwrap_or(Party::ONE),

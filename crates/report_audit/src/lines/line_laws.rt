@@ -52,14 +52,14 @@ pub fn a_line_is_of_one_kind()
 {}
 
 /// No line feed stands in a line between blocks.
-#[tactic(auto, using(crate::proofs::lemmas::lines::NextLemmas::next_one_line))]
+#[tactic(auto, using(crate::proofs::lemmas::lines::FeedLemmas::next_one_line))]
 pub fn a_line_between_blocks_has_no_feed()
     ensures { (x : NextLine) (line : List ℕ) → IsNextLine x line → is_one_line line ≡ true }
 {}
 
 /// No line feed stands in a line of a block, and it is `end` at the block's end alone.
-#[tactic(auto, using(crate::proofs::lemmas::lines::OneBlock::block_line_one_line, crate::proofs::lines::OneLine::block_line_of_one))]
+#[tactic(auto, using(crate::proofs::lemmas::lines::OneBlock::block_line_one_line, crate::proofs::lines::OneLine::end_alone))]
 pub fn a_block_ends_once()
     ensures one { (x : BlockLine) → IsBlockLine x → is_one_line (block_line_text x) ≡ true }
-    ensures end { (x : BlockLine) → IsBlockLine x → block_line_text x ≡ codes "end" → x ≡ End }
+    ensures last { (x : BlockLine) → IsBlockLine x → block_line_text x ≡ codes "end" → x ≡ End }
 {}

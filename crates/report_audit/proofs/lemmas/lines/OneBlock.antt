@@ -88,7 +88,7 @@ digits_line : (k n : ℕ) (behind : List ℕ) → is_one_line behind ≡ true �
 digits_line zero n behind one = one
 digits_line (suc k) n behind one = search (rules, and_from, glyph_line, cond_both, (digits_line k (n / 10)))
 
-decimal_line : (n : ℕ) → is_one_line (decimal n) ≡ true
+pub decimal_line : (n : ℕ) → is_one_line (decimal n) ≡ true
 unfolding digits
 decimal_line n = digits_line 64 n [] refl
 
