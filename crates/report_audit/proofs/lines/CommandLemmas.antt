@@ -220,16 +220,16 @@ pub left_is : {text : List ℕ} {found : Option Command} → BeginsWithNone (num
     text ≡ told_text (Submit rider origin destination time party, reply) → found ≡ Some (Submit rider origin destination time party)) → (command : Command)
     (reply : Reply) → IsCommand command → IsNoClose command → text ≡ told_text (command, reply) → found ≡ Some command
 unfolding numbered
-left_is cancels seals reports pickups dropoffs submits (Submit a b c d party) reply is open e = submits a b c d party reply is e
-left_is cancels seals reports pickups dropoffs submits (Cancel n) reply is open e = absurd (cancels n _ (one_begins (codes " cancel ") n reply is e))
-left_is cancels seals reports pickups dropoffs submits (Seal n) reply is open e = absurd (seals n _ (one_begins (codes " seal ") n reply is e))
-left_is cancels seals reports pickups dropoffs submits (Report a b c) reply is open e =
+left_is cancels seals reports pickups dropoffs submits (Submit a b c d party) reply is told e = submits a b c d party reply is e
+left_is cancels seals reports pickups dropoffs submits (Cancel n) reply is told e = absurd (cancels n _ (one_begins (codes " cancel ") n reply is e))
+left_is cancels seals reports pickups dropoffs submits (Seal n) reply is told e = absurd (seals n _ (one_begins (codes " seal ") n reply is e))
+left_is cancels seals reports pickups dropoffs submits (Report a b c) reply is told e =
     absurd (reports ((a, b), c) _ (three_begins (codes " report ") a b c reply is e))
-left_is cancels seals reports pickups dropoffs submits (Pickup a b c) reply is open e =
+left_is cancels seals reports pickups dropoffs submits (Pickup a b c) reply is told e =
     absurd (pickups ((a, b), c) _ (three_begins (codes " pickup ") a b c reply is e))
-left_is cancels seals reports pickups dropoffs submits (Dropoff a b c) reply is open e =
+left_is cancels seals reports pickups dropoffs submits (Dropoff a b c) reply is told e =
     absurd (dropoffs ((a, b), c) _ (three_begins (codes " dropoff ") a b c reply is e))
-left_is cancels seals reports pickups dropoffs submits (Close batch outcome) reply is open e = absurd open
+left_is cancels seals reports pickups dropoffs submits (Close batch outcome) reply is told e = absurd told
 
 -- a request is the one as which its numbers and its party are read
 pub submit_is : {text rest : List ℕ} {r : (ℕ × ℕ) × (ℕ × ℕ)} {persons : ℕ} → BeginsWith four_texts AreFour text r rest →

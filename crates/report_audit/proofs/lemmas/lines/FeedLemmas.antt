@@ -1,5 +1,5 @@
 -- No line feed stands in a line between blocks.
-use Rattle.std.proofs.Common.{◌≡◌, ℕ, ◌==◌, true, codes, List, [], ◌++◌, decimal, Option, None, Some, refl, sym, ◌∙◌, subst, rules}
+use Rattle.std.proofs.Common.{◌≡◌, ℕ, ◌==◌, true, codes, List, [], ◌++◌, decimal, Option, None, Some, refl, sym, subst, rules}
 use Rattle.std.proofs.lemmas.Bool.{cond_both}
 use Rattle.std.specs.Option.{option_map_or}
 use Rattle.report_audit.proofs.Common.{
@@ -19,18 +19,20 @@ use Rattle.report_audit.proofs.Common.{
   Status,
 }
 use Rattle.report_audit.specs.declared.lines.next.NextLine.TheVariants.{Round, Done, Entry as EntryOf}
-use Rattle.report_audit.proofs.lemmas.lines.OneBlock.{append_one_line, decimal_line, numbered_one_line, spaced_one_line, two_line}
-use Rattle.request_book.specs.declared.values.command.Command.TheVariants.{Submit, Cancel}
-use Rattle.request_book.specs.declared.values.reply.BookRefusal.TheVariants.{DuplicateRider, Ended, NotPromised, NotThisBatch}
-use Rattle.request_book.specs.declared.values.reply.Reply.TheVariants.{Accepted, Refused}
+use Rattle.report_audit.proofs.lemmas.lines.OneBlock.{append_one_line, decimal_line, numbered_one_line, spaced_one_line}
+use Rattle.request_book.specs.declared.values.command.Command.TheVariants.{Submit}
+use Rattle.request_book.specs.declared.values.reply.BookRefusal.TheVariants.{Ended, NotPromised, NotThisBatch}
+use Rattle.request_book.specs.declared.values.reply.Reply.TheVariants.{Refused}
 use Rattle.request_book.specs.declared.values.rider.Status.TheVariants.{Waiting}
 
 party_one_line : (party : ℕ) → is_one_line (party_text party) ≡ true
 party_one_line party = cond_both (party == 1) [] (spaced party) (λ t. is_one_line t ≡ true) (λ one. refl) (λ more. spaced_one_line party)
 
+ruleset feeds = (append_one_line, numbered_one_line, spaced_one_line, party_one_line)
+
 command_one_line : (command : Command) → is_one_line (command_text command) ≡ true
-command_one_line (Submit rider origin destination time party) = search (rules, append_one_line, numbered_one_line, spaced_one_line, party_one_line)
-command_one_line _ = search (rules, append_one_line, numbered_one_line, spaced_one_line)
+command_one_line (Submit rider origin destination time party) = search (rules, feeds)
+command_one_line _ = search (rules, feeds)
 
 status_one_line : (status : Status) → is_one_line (rider_status_text status) ≡ true
 status_one_line Waiting = refl
@@ -44,11 +46,11 @@ refusal_one_line : (refusal : BookRefusal) → is_one_line (refusal_text refusal
 refusal_one_line (Ended status) = append_one_line (codes "ended ") (rider_status_text status) refl (status_one_line status)
 refusal_one_line (NotPromised holder) = append_one_line (codes "not-promised") (option_map_or spaced holder (codes " none")) refl (number_or_none holder)
 refusal_one_line (NotThisBatch current) = append_one_line (codes "not-this-batch") (option_map_or spaced current (codes " none")) refl (number_or_none current)
-refusal_one_line _ = search (rules, numbered_one_line)
+refusal_one_line _ = search (rules, feeds)
 
 reply_one_line : (reply : Reply) → is_one_line (reply_text reply) ≡ true
 reply_one_line (Refused refusal) = append_one_line (codes "refused ") (refusal_text refusal) refl (refusal_one_line refusal)
-reply_one_line _ = search (rules, numbered_one_line)
+reply_one_line _ = search (rules, feeds)
 
 pub next_one_line : (x : NextLine) (line : List ℕ) → IsNextLine x line → is_one_line line ≡ true
 next_one_line (Round number) line is = subst (λ l. is_one_line l ≡ true) (sym is.1) (numbered_one_line (codes "round ") number refl)
