@@ -147,7 +147,8 @@ no_party n rest reply few e =
     no_number first.0 first.1 n rest first.3 (omega (arith, few)) (sym first.2 ∙ behind)
 
 -- a party is told where it isn't one person
-told_party : {text : List ℕ} (k : ℕ) (reply : Reply) → text ≡ party_text (suc (suc k)) ++ spaced_reply reply → text ≡ spaced (suc (suc k)) ++ spaced_reply reply
+told_party : {text : List ℕ} (k : ℕ) (reply : Reply) → text ≡ party_text (suc (suc k)) ++ spaced_reply reply →
+    text ≡ spaced (suc (suc k)) ++ spaced_reply reply
 told_party k reply e = e ∙ ap (λ (t : List ℕ). t ++ spaced_reply reply) (party_told (suc (suc k)) (omega arith))
 
 pub party_is : {text rest : List ℕ} {n : ℕ} (party : ℕ) (reply : Reply) → 1 ≤ party → party ≤ 6 → text ≡ party_text party ++ spaced_reply reply →
@@ -162,7 +163,8 @@ pub party_is_one : {text : List ℕ} (party : ℕ) (reply : Reply) → 1 ≤ par
     BeginsWithNone spaced (λ m. m ≤ 6) text → 1 ≡ party
 party_is_one zero reply some few e none = absurd (omega (arith, some))
 party_is_one (suc zero) reply some few e none = refl
-party_is_one (suc (suc k)) reply some few e none = absurd (none (suc (suc k)) (spaced_reply reply) (record { whole = told_party k reply e; lawful = few; ends = refl }))
+party_is_one (suc (suc k)) reply some few e none =
+    absurd (none (suc (suc k)) (spaced_reply reply) (record { whole = told_party k reply e; lawful = few; ends = refl }))
 
 -- the first two bytes of a command's word, which tell its kind
 abbrev word_bytes : List ℕ → ℕ
@@ -284,5 +286,5 @@ submitted e f g h = cc
 -- the party of a number that can be one
 pub party_made : {n d found : ℕ} {o : Option ℕ} (party : ℕ) → 1 ≤ party → party ≤ 6 → n ≡ party → IsSome o ↔ ((1 ≤ n) × (n ≤ 6)) → IfSome o (λ p. p ≡ n) →
     found ≡ unwrap_or o d → found ≡ party
-party_made {n} {d} {found} {None} party some few is valid value e = absurd (valid.1 (omega (arith, some, is), omega (arith, few, is)))
-party_made {n} {d} {found} {Some p} party some few is valid value e = e ∙ value ∙ is
+party_made {n} {d} {found} {o = None} party some few is valid value e = absurd (valid.1 (omega (arith, some, is), omega (arith, few, is)))
+party_made {n} {d} {found} {o = Some p} party some few is valid value e = e ∙ value ∙ is

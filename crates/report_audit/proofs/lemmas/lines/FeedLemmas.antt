@@ -60,5 +60,6 @@ next_one_line (EntryOf lane) line (position, e, is, same, whole) =
     let before = append_one_line (decimal position ++ spaced e.lane) (codes " ") head refl in
     let told = append_one_line (decimal position ++ spaced e.lane ++ codes " ") (command_text e.command) before (command_one_line e.command) in
     let apart = append_one_line (decimal position ++ spaced e.lane ++ codes " " ++ command_text e.command) (codes " ") told refl in
-    subst (λ l. is_one_line l ≡ true) (sym whole)
-    (append_one_line (decimal position ++ spaced e.lane ++ codes " " ++ command_text e.command ++ codes " ") (reply_text e.reply) apart (reply_one_line e.reply))
+    let all = append_one_line (decimal position ++ spaced e.lane ++ codes " " ++ command_text e.command ++ codes " ") (reply_text e.reply) apart
+    (reply_one_line e.reply) in
+    subst (λ l. is_one_line l ≡ true) (sym whole) all
