@@ -36,7 +36,7 @@ use Rattle.std.proofs.Common.{
   arith,
   rules,
 }
-use Rattle.std.proofs.lemmas.Bool.{cond_both}
+use Rattle.std.proofs.lemmas.Bool.{cond_both, false≢true}
 use Rattle.report_audit.proofs.Common.{
   eqb-false,
   append_cancel_left,
@@ -274,7 +274,8 @@ module _ (position : ℕ) (e : Entry) (is : IsEntry position e) where
 pub not_read : {X Y : Type 0} {x : X} {y : Y} → None ≡ Some x → None ≡ Some y
 not_read e = absurd cc
 
-pub told_same : {lane other : ℕ} {command same : Command} → lane ≡ other → Some command ≡ Some same → Some (lane, command) ≡ Some (other, same)
+pub told_same : {lane other : ℕ} {command same : Command} → lane ≡ other → Some command ≡ Some same →
+    ◌≡◌ {A = Option (ℕ × Command)} (Some (lane, command)) (Some (other, same))
 told_same e f = cc
 
 pub made : {a b c x y z : ℕ} (make : ℕ → ℕ → ℕ → Command) → a ≡ x → b ≡ y → c ≡ z → make a b c ≡ make x y z
@@ -284,7 +285,7 @@ pub submitted : {a b c d v x y z n : ℕ} → a ≡ v → b ≡ x → c ≡ y �
 submitted e f g h = cc
 
 -- the party of a number that can be one
-pub party_made : {n d found : ℕ} {o : Option ℕ} (party : ℕ) → 1 ≤ party → party ≤ 6 → n ≡ party → IsSome o ↔ ((1 ≤ n) × (n ≤ 6)) → IfSome o (λ p. p ≡ n) →
-    found ≡ unwrap_or o d → found ≡ party
-party_made {n} {d} {found} {o = None} party some few is valid value e = absurd (valid.1 (omega (arith, some, is), omega (arith, few, is)))
-party_made {n} {d} {found} {o = Some p} party some few is valid value e = e ∙ value ∙ is
+pub party_made : {n found : ℕ} (d : ℕ) (o : Option ℕ) (party : ℕ) → 1 ≤ party → party ≤ 6 → n ≡ party → IsSome o ↔ ((1 ≤ n) × (n ≤ 6)) →
+    IfSome o (λ p. p ≡ n) → found ≡ unwrap_or o d → found ≡ party
+party_made d None party some few is valid value e = absurd (false≢true (valid.1 (omega (arith, some, is), omega (arith, few, is))))
+party_made d (Some p) party some few is valid value e = e ∙ value ∙ is

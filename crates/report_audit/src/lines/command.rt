@@ -25,7 +25,7 @@ pub fn read_command(line: &[u8]) -> Option<(u8, Command)>
     ensures exact { (position : ℕ) (e : Entry) → IsEntry position e → IsNoClose e.command → line.now ≡ entry_line position e → result ≡ Some (e.lane, e.command) }
 {
     let (_, after) = number_first(line, u64::MAX)?;
-    let (lane, told) = numbered_first(after, b" ", u64::from(u8::MAX))?;
+    let (lane, told) = numbered_first(after, b" ", u8::MAX as u64)?;
     let command = command_first(told)?;
     Some((lane as u8, command))
 }
