@@ -7,7 +7,6 @@ use Rattle.report_audit.proofs.Common.{
   refusal_text,
   reply_text,
   rider_status_text,
-  numbered,
   spaced,
   is_one_line,
   party_text,

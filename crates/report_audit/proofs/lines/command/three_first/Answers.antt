@@ -1,4 +1,3 @@
-use Rattle.std.proofs.Common.{codes}
 use Rattle.report_audit.proofs.Common.{IsId}
 use Rattle.report_audit.proofs.lemmas.lines.ReadingLemmas.{both_none_first, both_none_second, spaced_apart}
 use Rattle.report_audit.proofs.lines.CommandLemmas.{two_once}
