@@ -37,14 +37,14 @@ returns-else-is_closing-clause-shorter g c =
 
 pub returns-in_default-clause-refused : goal.returns-in_default-clause-refused
 returns-in_default-clause-refused g c =
-    refused_place c.a_line_between_blocks_has_no_feed.ensures c.a_line_is_of_one_kind.ensures c.a_block_ends_once.ensures.one c.a_block_ends_once.ensures.end
+    refused_place c.a_line_between_blocks_has_no_feed.ensures c.a_line_is_of_one_kind.ensures c.a_block_ends_once.ensures.one c.a_block_ends_once.ensures.last
     c.args.context.now.settings.now c.args.context.now.network.now c.args.context.now.fleet.now c.args.context.now.judge c.args.context.now.text.now
     c.args.last.now c.args.book.now c.args.open.now c.args.notices.now.items c.args.item.round c.args.item.lane c.args.item.line.now
     c.args.item.after.now c.requires c.start_fault.result c.in_default.ensures
 
 pub returns-then-is_closing-clause-left : goal.returns-then-is_closing-clause-left
 returns-then-is_closing-clause-left g c =
-    left_close c.a_line_between_blocks_has_no_feed.ensures c.a_line_is_of_one_kind.ensures c.a_block_ends_once.ensures.one c.a_block_ends_once.ensures.end
+    left_close c.a_line_between_blocks_has_no_feed.ensures c.a_line_is_of_one_kind.ensures c.a_block_ends_once.ensures.one c.a_block_ends_once.ensures.last
     c.args.context.now.settings.now c.args.context.now.network.now c.args.context.now.fleet.now c.args.context.now.judge c.args.context.now.text.now
     c.args.last.now c.args.book.now c.args.open.now c.args.notices.now.items c.args.item.round c.args.item.lane c.args.item.line.now
     c.args.item.after.now c.requires (c.is_closing.ensures.yes c.if-is_closing.true).0 c.close_taken.new.book c.close_taken.new.open c.close_taken.new.notices.items
@@ -53,14 +53,14 @@ returns-then-is_closing-clause-left g c =
 pub returns-then-is_closing-clause-refused : goal.returns-then-is_closing-clause-refused
 returns-then-is_closing-clause-refused g c =
     let yes = c.is_closing.ensures.yes c.if-is_closing.true in
-    refused_close c.a_line_between_blocks_has_no_feed.ensures c.a_line_is_of_one_kind.ensures c.a_block_ends_once.ensures.one c.a_block_ends_once.ensures.end
+    refused_close c.a_line_between_blocks_has_no_feed.ensures c.a_line_is_of_one_kind.ensures c.a_block_ends_once.ensures.one c.a_block_ends_once.ensures.last
     c.args.context.now.settings.now c.args.context.now.network.now c.args.context.now.fleet.now c.args.context.now.judge c.args.context.now.text.now
     c.args.last.now c.args.book.now c.args.open.now c.args.notices.now.items c.args.item.round c.args.item.lane c.args.item.line.now
     c.args.item.after.now c.requires yes.1 yes.0 c.close_taken.result c.close_taken.ensures.refused
 
 pub returns-else-is_closing-clause-left : goal.returns-else-is_closing-clause-left
 returns-else-is_closing-clause-left g c =
-    left_row c.a_line_between_blocks_has_no_feed.ensures c.a_line_is_of_one_kind.ensures c.a_block_ends_once.ensures.one c.a_block_ends_once.ensures.end
+    left_row c.a_line_between_blocks_has_no_feed.ensures c.a_line_is_of_one_kind.ensures c.a_block_ends_once.ensures.one c.a_block_ends_once.ensures.last
     c.args.context.now.settings.now c.args.context.now.network.now c.args.context.now.fleet.now c.args.context.now.judge c.args.context.now.text.now
     c.args.last.now c.args.book.now c.args.open.now c.args.notices.now.items c.args.item.round c.args.item.lane c.args.item.line.now
     c.args.item.after.now c.requires (c.is_closing.ensures.no c.if-is_closing.false) c.in-Some.number c.row_taken.new.book c.row_taken.new.open c.row_taken.new.last
@@ -68,7 +68,7 @@ returns-else-is_closing-clause-left g c =
 
 pub returns-else-is_closing-clause-refused : goal.returns-else-is_closing-clause-refused
 returns-else-is_closing-clause-refused g c =
-    refused_row c.a_line_between_blocks_has_no_feed.ensures c.a_line_is_of_one_kind.ensures c.a_block_ends_once.ensures.one c.a_block_ends_once.ensures.end
+    refused_row c.a_line_between_blocks_has_no_feed.ensures c.a_line_is_of_one_kind.ensures c.a_block_ends_once.ensures.one c.a_block_ends_once.ensures.last
     c.args.context.now.settings.now c.args.context.now.network.now c.args.context.now.fleet.now c.args.context.now.judge c.args.context.now.text.now
     c.args.last.now c.args.book.now c.args.open.now c.args.notices.now.items c.args.item.round c.args.item.lane c.args.item.line.now
     c.args.item.after.now c.requires (c.is_closing.ensures.no c.if-is_closing.false) c.row_taken.result c.row_taken.ensures.refused
