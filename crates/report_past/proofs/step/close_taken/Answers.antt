@@ -20,6 +20,5 @@ returns-in-Ok-None-clause-refused g c = λ _ b is.
 
 pub returns-in-Err-clause-refused : goal.returns-in-Err-clause-refused
 returns-in-Err-clause-refused g c = λ fails b is.
-    let none = rw c.in-Err.is at c.in-Err.ensures.none in
     inr (no_block_of c.args.context.now.settings.now c.args.context.now.network.now c.in-Some.snapshot b c.args.item.now.after.now
-    (sym c.in-Some.is ∙ c.take.ensures.value ∙ is) (none (λ memory. fails (c.block_fault.ensures memory))))
+    (sym c.in-Some.is ∙ c.take.ensures.value ∙ is) (c.in-Err.ensures.none (λ memory. fails (c.block_fault.ensures memory))))
