@@ -21,10 +21,10 @@ pub returns-in_err-book-clause-refused : goal.returns-in_err-book-clause-refused
 returns-in_err-book-clause-refused g c =
     let p = err_from_is_err_and c.from_residual.result c.from_residual.ensures.1 in rw p.1 (λ fails left. fails p.2)
 
-pub returns-in-Err-give_up-clause-refused : goal.returns-in-Err-give_up-clause-refused
-returns-in-Err-give_up-clause-refused g c = λ fails left. fails c.in-Err-give_up.ensures.memory
+pub returns-in-Ok-clause-refused : goal.returns-in-Ok-clause-refused
+returns-in-Ok-clause-refused g c = λ fails left. fails c.in-Err-give_up.ensures.memory
 
-pub returns-in-Err-clause-refused : goal.returns-in-Err-clause-refused
-returns-in-Err-clause-refused g c =
+pub returns-clause-refused : goal.returns-clause-refused
+returns-clause-refused g c =
     past_fails c.args.settings.now c.args.network.now c.args.fleet.now c.args.text.now c.split_at.result.0.now c.whole_size-size.result c.in_ok-book.book
     c.new-notices.result.items c.in-Err.fault c.split_at.ensures.front c.whole_size-size.ensures.whole c.in_ok-book.ensures c.in-Err.ensures.refused
