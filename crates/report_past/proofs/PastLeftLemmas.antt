@@ -15,7 +15,8 @@ use Rattle.rider_limits.specs.declared.settings.Settings.{Settings}
 use Rattle.road_network.specs.Roads.{Roads}
 
 module _ (settings : Settings) (roads : Roads) (start now : Stand) (whole rest : List ℕ) (stays : StaysLeft settings roads start whole now rest) where
-  pub stays_on : (next : Stand) (text after : List ℕ) → rest ≡ text → StaysLeft settings roads now text next after → StaysLeft settings roads start whole next after
+  pub stays_on : (next : Stand) (text after : List ℕ) → rest ≡ text → StaysLeft settings roads now text next after
+      → StaysLeft settings roads start whole next after
   stays_on next text after is further more ends left =
       let here = stays more ends left in
       further more (subst EndsWhole is here.1) (subst (λ t. IsLeftAt settings roads now (t ++ more)) is here.0)

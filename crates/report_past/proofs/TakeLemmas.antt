@@ -423,7 +423,8 @@ module _ (settings : Settings) (roads : Roads) (vehicles : List Vehicle) (judged
       let count : length whole - length rest ≡ length read = omega (arith, ap length is, length-append read rest) in
       (λ i. take (count i) (is i)) ∙ take-front read rest
 
-  pub past_is : (text whole kept rest : List ℕ) (size : ℕ) (s : Stand) (b : BookView) → whole ≡ take size text → size ≤ length text → IsWholeText (take size text)
+  pub past_is : (text whole kept rest : List ℕ) (size : ℕ) (s : Stand) (b : BookView) → whole ≡ take size text → size ≤ length text
+      → IsWholeText (take size text)
       → ((m : ℕ) → m ≤ length text → IsWholeText (take m text) → m ≤ size) → Reached settings roads vehicles judged whole s rest → IsDropped rest
       → kept ≡ take (length whole - length rest) whole → b ≡ fresh s.book → IsBook b
       → IsPast settings roads vehicles judged text kept s.last b s.open_batch s.notices

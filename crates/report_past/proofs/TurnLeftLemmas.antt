@@ -294,8 +294,7 @@ module _ (one_line : (x : NextLine) (line : List ℕ) → IsNextLine x line → 
             let r = row_turn free more (turn more left) in
             let only = takes.only at r.e r.next.told (no_close r.e.lane r.e.command r.next.stands) r.next.line_is in
             let state : stepped r.e.command ≡ now.state = ap stepped only.1 ∙ sym (ap (λ p. p.0) takes.applied.stepped) in
-            let same : Some r.number ≡ last_now = ap (λ n. Some n) (same_number found r.number number r.stands stands) ∙ sym last_is in
-            (
+            let same : Some r.number ≡ last_now = ap (λ n. Some n) (same_number found r.number number r.stands stands) ∙ sym last_is in (
               moved (Some r.number) last_now (stepped r.e.command) now.state (one_more at) (next_position now.first now.entries) (after ++ more) (rest ++ more)
                   same state (after_entry takes.lane takes.command takes.reply now takes.applied) (ap (λ t. t ++ more) (sym rest_is)) r.left,
               subst EndsWhole (sym rest_is) (ends_item found lane line item after ends),
@@ -337,13 +336,13 @@ module _ (one_line : (x : NextLine) (line : List ℕ) → IsNextLine x line → 
             let enters = takes.enters in
             let book = enters.closed in
             let state : stepped (Close batch.number c.outcome) ≡ now.state =
-            ap (λ o. stepped (Close batch.number o)) only.0 ∙ sym (ap (λ p. p.0) enters.applied.stepped) ∙ sym (ap (λ (k : BookView). k.state) enters.fresh_is) in
+            ap (λ o. stepped (Close batch.number o)) only.0 ∙ sym (ap (λ p. p.0) enters.applied.stepped)
+            ∙ sym (ap (λ (k : BookView). k.state) enters.fresh_is) in
             let renewed : next_position book.first book.entries ≡ next_position (next_position book.first book.entries) [] =
             omega (arith, next-low book.first book.entries) in
             let position : one_more at ≡ next_position now.first now.entries =
             after_entry 0 (Close batch.number takes.outcome) enters.reply book enters.applied ∙ renewed
-            ∙ sym (ap (λ (k : BookView). next_position k.first k.entries) enters.fresh_is) in
-            (
+            ∙ sym (ap (λ (k : BookView). next_position k.first k.entries) enters.fresh_is) in (
               moved last last (stepped (Close batch.number c.outcome)) now.state (one_more at) (next_position now.first now.entries) c.rest (rest ++ more)
                   refl state position (stands.rest ∙ ap (λ t. t ++ more) only.1) c.left,
               subst EndsWhole only.1 (ends_any false stands.after stands.ends),

@@ -1,5 +1,4 @@
 use Rattle.std.proofs.Common.{ap}
-use Rattle.std.proofs.lemmas.Result.{err_from_is_err_and}
 use Rattle.report_past.proofs.TakeLemmas.{close_takes, no_closing}
 use Rattle.request_book.specs.values.Batch.{Batch}
 use Rattle.report_past.proofs.close.take_close.Goals as goal

@@ -17,7 +17,8 @@ returns-in_err-next-clause-refused c =
     let p = err_from_is_err_and c.from_residual.result c.from_residual.ensures.1 in
     let some : c.round_first-round.result.1.now ≡ [] → ⊥ = λ none. grind (arith, c.is_empty.ensures, c.if-is_empty.false, ap length none) in
     rw p.1 (no_next c.a_line_between_blocks_has_no_feed.ensures c.a_line_is_of_one_kind.ensures c.args.rest.now c.round_first-round.result.1.now
-    c.round_first-round.result.0 c.round_first-round.ensures.start c.round_first-round.ensures.low c.round_first-round.ensures.none some c.in_err-next.ensures.none)
+    c.round_first-round.result.0 c.round_first-round.ensures.start c.round_first-round.ensures.low c.round_first-round.ensures.none some
+    c.in_err-next.ensures.none)
 
 pub returns-in-Entry-clause-found : goal.returns-in-Entry-clause-found
 returns-in-Entry-clause-found c = (

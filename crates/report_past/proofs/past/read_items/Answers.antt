@@ -29,10 +29,11 @@ items-preserved g c =
     let is = rw c.in-Ok-Some.field-0-is at c.in-Ok-Some.ensures.found in (
       c.in-Ok.ensures.reached,
       stays_on c.args.context.now.settings.now c.args.context.now.network.now
-    (stand c.args.last.now c.args.book.now c.args.open.now c.args.notices.now.items) (stand c.items.last c.items.book c.items.open c.items.notices.items)
-    c.args.context.now.text.now c.items.rest.now c.items.invariant.1
+          (stand c.args.last.now c.args.book.now c.args.open.now c.args.notices.now.items) (stand c.items.last c.items.book c.items.open c.items.notices.items)
+          c.args.context.now.text.now c.items.rest.now c.items.invariant.1
           (stand c.take_item.new.last c.take_item.new.book c.take_item.new.open c.take_item.new.notices.items)
-          (start_text c.in-Ok-Some.item.round ++ (c.in-Ok-Some.item.line.now ++ 10 ∷ c.in-Ok-Some.item.after.now)) c.in-Ok.after.now is.0 (c.in-Ok.ensures.left is.1),
+          (start_text c.in-Ok-Some.item.round ++ (c.in-Ok-Some.item.line.now ++ 10 ∷ c.in-Ok-Some.item.after.now)) c.in-Ok.after.now is.0
+          (c.in-Ok.ensures.left is.1),
     )
 
 pub returns-in-Err-take_item-clause-refused : goal.returns-in-Err-take_item-clause-refused
@@ -41,7 +42,8 @@ returns-in-Err-take_item-clause-refused g c = λ fails.
     refused_on c.args.context.now.settings.now c.args.context.now.network.now
     (stand c.args.last.now c.args.book.now c.args.open.now c.args.notices.now.items) (stand c.items.last c.items.book c.items.open c.items.notices.items)
     c.args.context.now.text.now c.items.rest.now c.items.invariant.1
-    (start_text c.in-Ok-Some.item.round ++ (c.in-Ok-Some.item.line.now ++ 10 ∷ c.in-Ok-Some.item.after.now)) is.0 (c.in-Err-take_item.ensures.refused fails is.1)
+    (start_text c.in-Ok-Some.item.round ++ (c.in-Ok-Some.item.line.now ++ 10 ∷ c.in-Ok-Some.item.after.now)) is.0
+    (c.in-Err-take_item.ensures.refused fails is.1)
 
 pub returns-in-Ok-None-clause-reached : goal.returns-in-Ok-None-clause-reached
 returns-in-Ok-None-clause-reached g c =

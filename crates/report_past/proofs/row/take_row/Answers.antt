@@ -4,7 +4,8 @@ use Rattle.report_past.proofs.TakeLemmas.{none_of}
 use Rattle.report_past.proofs.row.take_row.Goals as goal
 
 pub returns-in_default-clause-none : goal.returns-in_default-clause-none
-returns-in_default-clause-none c = λ _. unread c.args.line.now c.read_command.result c.read_command.ensures.exact c.args.book.now c.args.open.now c.in_default.is
+returns-in_default-clause-none c = λ _.
+    unread c.args.line.now c.read_command.result c.read_command.ensures.exact c.args.book.now c.args.open.now c.in_default.is
 
 pub returns-then-not-may_come-clause-none : goal.returns-then-not-may_come-clause-none
 returns-then-not-may_come-clause-none c = λ _.

@@ -1,4 +1,4 @@
-use Rattle.std.proofs.Common.{◌≡◌, None, Some, inl, inr, subst, sym, ◌∙◌}
+use Rattle.std.proofs.Common.{◌≡◌, None, Some, inl, inr, sym, ◌∙◌}
 use Rattle.report_past.proofs.RowLeftLemmas.{no_block_of, no_closing_of}
 use Rattle.report_past.proofs.step.close_taken.Goals as goal
 

@@ -47,8 +47,8 @@ returns-then-is_closing-clause-left g c =
     left_close c.a_line_between_blocks_has_no_feed.ensures c.a_line_is_of_one_kind.ensures c.a_block_ends_once.ensures.one c.a_block_ends_once.ensures.last
     c.args.context.now.settings.now c.args.context.now.network.now c.args.context.now.fleet.now c.args.context.now.judge c.args.context.now.text.now
     c.args.last.now c.args.book.now c.args.open.now c.args.notices.now.items c.args.item.round c.args.item.lane c.args.item.line.now
-    c.args.item.after.now c.requires (c.is_closing.ensures.yes c.if-is_closing.true).0 c.close_taken.new.book c.close_taken.new.open c.close_taken.new.notices.items
-    c.close_taken.result c.close_taken.ensures.close
+    c.args.item.after.now c.requires (c.is_closing.ensures.yes c.if-is_closing.true).0 c.close_taken.new.book c.close_taken.new.open
+    c.close_taken.new.notices.items c.close_taken.result c.close_taken.ensures.close
 
 pub returns-then-is_closing-clause-refused : goal.returns-then-is_closing-clause-refused
 returns-then-is_closing-clause-refused g c =
@@ -63,8 +63,8 @@ returns-else-is_closing-clause-left g c =
     left_row c.a_line_between_blocks_has_no_feed.ensures c.a_line_is_of_one_kind.ensures c.a_block_ends_once.ensures.one c.a_block_ends_once.ensures.last
     c.args.context.now.settings.now c.args.context.now.network.now c.args.context.now.fleet.now c.args.context.now.judge c.args.context.now.text.now
     c.args.last.now c.args.book.now c.args.open.now c.args.notices.now.items c.args.item.round c.args.item.lane c.args.item.line.now
-    c.args.item.after.now c.requires (c.is_closing.ensures.no c.if-is_closing.false) c.in-Some.number c.row_taken.new.book c.row_taken.new.open c.row_taken.new.last
-    c.in-Some.ensures c.row_taken.result c.row_taken.ensures.row
+    c.args.item.after.now c.requires (c.is_closing.ensures.no c.if-is_closing.false) c.in-Some.number c.row_taken.new.book c.row_taken.new.open
+    c.row_taken.new.last c.in-Some.ensures c.row_taken.result c.row_taken.ensures.row
 
 pub returns-else-is_closing-clause-refused : goal.returns-else-is_closing-clause-refused
 returns-else-is_closing-clause-refused g c =
