@@ -186,6 +186,7 @@ pub use Rattle.report_audit.specs.work.lines.Entries.{
   IsToldBy,
   IsToldByAny,
   fields_of,
+  party_text,
   replies,
   spaced_reply,
   told_text,

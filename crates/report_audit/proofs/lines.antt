@@ -4,3 +4,4 @@ pub mod StopLemmas
 pub mod SignedLemmas
 pub mod OneLine
 pub mod EntryLineLemmas
+pub mod CommandLemmas

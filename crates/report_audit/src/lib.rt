@@ -8,7 +8,7 @@
 //! it. It is found where there is one; else it is said what is wrong: where the text is cut or a line out of form, or the
 //! first point that fails.
 //!
-//! `read_outcome` reads the same block, and judges nothing.
+//! `read_outcome` reads the same block, and judges nothing. Of the block of a good outcome it reads this outcome.
 //!
 //! `judge` judges the outcome of a batch, whoever made it: good, or the first point that fails. The batch is settled and its
 //! graphs are grown anew; trips, plan, bound, tree and moves are then judged as they are told, and no plan is searched for.
@@ -19,7 +19,7 @@
 //! The lines are read from their beginnings, a word or a number at a time: a line is read exactly where it is the line that
 //! the report prints for something. No number is followed by a digit, so the text of each thing ends at one place alone, and
 //! what is read is the only thing that the line can say. Of an entry nothing is kept but its lane: its line is only known
-//! to be in form.
+//! to be in form. `read_command` reads its command too, unless it is a close.
 //!
 //! Callers:
 //!
@@ -46,12 +46,13 @@
 //! ```
 //!
 //! Main clauses: `audit`: `accepted`, `refused`, `fault`, `sound`, `only`; the laws `one_fault` and `no_fault`;
-//! `audit_block`: `good`, `lines`, `only`, `none`, `fault`; `read_outcome`: `told`, `lines`; the law `a_text_is_refused_in_one_way`; of lines
-//! `read_head`: `read`, `only`, `none`, `fault`; `read_block`; `read_next`; the laws `a_line_says_one_thing`,
-//! `a_text_begins_with_one_block` and `a_text_has_one_block_fault`; of outcomes `judge`: `points`, `good`;
-//! `shows_bound`, `is_close`, `is_fair` and `is_best_near`: of each its one clause; `a_batch_settles_in_one_way`;
-//! `a_batch_has_one_graph_of_each_kind`: `vehicles`, `riders`, `trips`; `a_batch_has_rows_or_too_many`;
-//! `a_good_outcome_has_one_plan`.
+//! `audit_block`: `good`, `lines`, `only`, `none`, `fault`; `read_outcome`: `told`, `lines`, `only`, `none`; the law
+//! `a_text_is_refused_in_one_way`; of lines `read_head`: `read`, `only`, `none`, `fault`; `read_block`; `read_next`;
+//! `read_command`: `no_close`, `exact`; the laws `a_line_says_one_thing`, `a_line_between_blocks_has_no_feed`,
+//! `a_block_ends_once`: `one`, `last`; `a_text_begins_with_one_block` and `a_text_has_one_block_fault`; of outcomes
+//! `judge`: `points`, `good`; `shows_bound`, `is_close`, `is_fair` and `is_best_near`: of each its one clause;
+//! `a_batch_settles_in_one_way`; `a_batch_has_one_graph_of_each_kind`: `vehicles`, `riders`, `trips`;
+//! `a_batch_has_rows_or_too_many`; `a_good_outcome_has_one_plan`.
 #![tactic(auto)]
 
 // Rooms, each names only those above it: lines, points, block, report.
@@ -77,8 +78,9 @@ pub use lines::command::read_command;
 pub use lines::head::{SettingsText, read_head, read_settings, read_sizes};
 pub use lines::head_fault::HeadFault;
 pub use lines::line_laws::{
-    a_block_has_no_fault, a_line_is_of_one_kind, a_line_says_one_thing,
-    a_text_begins_with_one_block, a_text_has_one_block_fault, an_outcome_prints_a_block,
+    a_block_ends_once, a_block_has_no_fault, a_line_between_blocks_has_no_feed,
+    a_line_is_of_one_kind, a_line_says_one_thing, a_text_begins_with_one_block,
+    a_text_has_one_block_fault, an_outcome_prints_a_block,
 };
 pub use lines::lists::{read_late, read_leaf, read_row, read_trip};
 pub use lines::next::{NextLine, read_next};

@@ -43,14 +43,14 @@ abbrev One : List ℕ → Type 0
 One line = is_one_line line ≡ true
 
 -- lines end at line feeds, and there alone
-cut_once : (a b r s : List ℕ) → is_one_line a ≡ true → is_one_line b ≡ true → a ++ 10 ∷ r ≡ b ++ 10 ∷ s → (a ≡ b) × (r ≡ s)
+pub cut_once : (a b r s : List ℕ) → is_one_line a ≡ true → is_one_line b ≡ true → a ++ 10 ∷ r ≡ b ++ 10 ∷ s → (a ≡ b) × (r ≡ s)
 cut_once [] [] r s ia ib e = grind arith
 cut_once [] (b ∷ ys) r s ia ib e = grind (arith, nat_tests)
 cut_once (a ∷ xs) [] r s ia ib e = grind (arith, nat_tests)
 cut_once (a ∷ xs) (b ∷ ys) r s ia ib e = grind (arith, nat_tests, cut_once xs ys r s)
 
 -- a text with a line feed isn't one line
-no_one_line : (a r : List ℕ) → is_one_line (a ++ 10 ∷ r) ≡ true → ⊥
+pub no_one_line : (a r : List ℕ) → is_one_line (a ++ 10 ∷ r) ≡ true → ⊥
 no_one_line [] r h = cc
 no_one_line (c ∷ cs) r h = no_one_line cs r (and_parts (not (c == 10)) (is_one_line (cs ++ 10 ∷ r)) h).1
 
@@ -85,11 +85,11 @@ inside-push i (y ∷ ys) x h now =
     let parts = and_parts (after_line i y) (are_inside (after_line i y) ys) h in
     and_from (after_line i y) (are_inside (after_line i y) (ys ++ x ∷ [])) parts.0 (inside-push (after_line i y) ys x parts.1 now)
 
-after_more : (i : Bool) (x : List ℕ) (xs : List (List ℕ)) → after_lines i (x ∷ xs) ≡ after_lines (after_line i x) xs
+pub after_more : (i : Bool) (x : List ℕ) (xs : List (List ℕ)) → after_lines i (x ∷ xs) ≡ after_lines (after_line i x) xs
 unfolding after_lines
 after_more i x xs = refl
 
-after_none : (i : Bool) → after_lines i [] ≡ i
+pub after_none : (i : Bool) → after_lines i [] ≡ i
 unfolding after_lines
 after_none i = refl
 

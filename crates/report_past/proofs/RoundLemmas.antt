@@ -55,7 +55,7 @@ in_lane-beyond : (rows : List ScriptRow) (number lane : ℕ) → 16 ≤ lane →
 in_lane-beyond [] number lane beyond are = refl
 in_lane-beyond (row ∷ rows) number lane beyond are = grind (arith, nat_tests, are.1, in_lane-beyond rows number lane beyond are.2)
 
-round-beyond : (rows : List ScriptRow) (number lane : ℕ) → 16 ≤ lane → lane_at (round_of rows number) lane ≡ []
+pub round-beyond : (rows : List ScriptRow) (number lane : ℕ) → 16 ≤ lane → lane_at (round_of rows number) lane ≡ []
 round-beyond rows number lane beyond = search (rules, get_or_past, length-map-range_with_len)
 
 pub lane_commands : (rows : List ScriptRow) (number lane : ℕ) → AreOf number rows → lane_at (round_of rows number) lane ≡ commands_in rows lane

@@ -3,6 +3,7 @@ use Rattle.std.proofs.Common.{
   rules,
   Bor,
   ◌≡◌,
+  ◌≢◌,
   ℕ,
   ◌-◌,
   ◌<◌,
@@ -30,8 +31,9 @@ use Rattle.std.proofs.Common.{
   Result,
   Ok,
   Err,
+  IfErr,
   IfOk,
-  IfSome,
+  MatchOption,
   IsTrue,
   ◌↔◌,
   refl,
@@ -68,10 +70,11 @@ use Rattle.report_past.specs.Past.{IsPast, dropped_text}
 use Rattle.report_past.specs.Told.{AreScriptRows, close_of}
 use Rattle.report_past.specs.Whole.{IsWholeText}
 use Rattle.report_past.specs.work.Reading.{IsAbove, IsDropped, IsReading, Stand, StandsIn, stand, start_text}
-use Rattle.report_past.specs.work.Taking.{EntersClose, Reached, TakesClose, TakesRow, TellsBlock, fresh}
+use Rattle.report_past.specs.work.Taking.{EntersClose, HasNoBlock, IsNoClosing, Reached, TakesClose, TakesRow, TellsBlock, fresh}
 use Rattle.request_book.specs.Book.{BookView, IsApplied, IsBook, next_position, opening}
 use Rattle.request_book.specs.Consistent.{IsNode}
 use Rattle.request_book.specs.Points.{named_nodes}
+use Rattle.request_book.specs.register.Step.{step}
 use Rattle.request_book.specs.values.Batch.{Batch}
 use Rattle.request_book.specs.values.Command.{IsNoClose}
 use Rattle.request_book.specs.declared.notices.notice.Notice.{Notice}
@@ -111,12 +114,12 @@ plain_block : (command : Command) (reply : Reply) → IsNoClose command → entr
 plain_block (Close batch outcome) reply plain = absurd plain
 plain_block _ reply plain = refl
 
-row_text : (position : ℕ) (e : Entry) → IsNoClose e.command → entry_text true position e ≡ entry_line position e ++ 10 ∷ []
+pub row_text : (position : ℕ) (e : Entry) → IsNoClose e.command → entry_text true position e ≡ entry_line position e ++ 10 ∷ []
 row_text position e plain =
     ap (λ ls. lines_text ((entry_line position e ∷ []) ++ ls)) (plain_block e.command e.reply plain)
     ∙ sym (append-nil (lines_text (entry_line position e ∷ []))) ∙ one_text (entry_line position e) []
 
-close_text : (position : ℕ) (batch : Batch) (outcome : Outcome) (rest : List ℕ)
+pub close_text : (position : ℕ) (batch : Batch) (outcome : Outcome) (rest : List ℕ)
     → entry_text true position (close_of batch outcome) ++ rest ≡ entry_line position (close_of batch outcome) ++ 10 ∷
     (lines_text (block_lines true batch.number outcome) ++ rest)
 close_text position batch outcome rest = first_line (entry_line position (close_of batch outcome)) (block_lines true batch.number outcome) rest
@@ -130,19 +133,38 @@ empty_list [] none = refl
 empty_list (x ∷ xs) none = absurd (omega (arith, none))
 
 -- the round in which an item stands
-pub stands_same : (last : Option ℕ) (open_batch : Option Batch) (round : Option ℕ) → round ≡ None → IfSome last (StandsIn last open_batch round)
-stands_same last open_batch round none = subst (λ r. IfSome last (StandsIn last open_batch r)) (sym none) (by last)
+pub stands_same : (last : Option ℕ) (open_batch : Option Batch) (round : Option ℕ) → round ≡ None →
+    MatchOption last ((n : ℕ) → StandsIn last open_batch round n → ⊥) (StandsIn last open_batch round)
+stands_same last open_batch round none =
+    subst (λ r. MatchOption last ((n : ℕ) → StandsIn last open_batch r n → ⊥) (StandsIn last open_batch r)) (sym none) (by last)
   where
-    by : (o : Option ℕ) → IfSome o (λ n. o ≡ Some n)
-    by None = tt
+    by : (o : Option ℕ) → MatchOption o ((n : ℕ) → o ≡ Some n → ⊥) (λ n. o ≡ Some n)
+    by None = λ n is. let no : None ≡ Some n = is in cc
     by (Some n) = refl
 
+-- a round that can't begin
+no_later : (last : Option ℕ) (open_batch : Option Batch) (round : Option ℕ) (number : ℕ) → round ≡ Some number
+    → ((open_batch ≡ None) × IsAbove last number × (number ≤ 1000000000) → ⊥) → (n : ℕ) → StandsIn last open_batch round n → ⊥
+no_later last open_batch round number is none n stands =
+    let at : StandsIn last open_batch (Some number) n = subst (λ r. StandsIn last open_batch r n) is stands in
+    none (at.3, subst (IsAbove last) (sym at.0) at.1, omega (arith, at.0, at.2))
+
+pub stands_never : (last : Option ℕ) (open_batch : Option Batch) (round : Option ℕ) (number : ℕ) → round ≡ Some number → is_some open_batch ≡ true
+    → (n : ℕ) → StandsIn last open_batch round n → ⊥
+stands_never last open_batch round number is open_is =
+    no_later last open_batch round number is (λ parts. let no : false ≡ true = sym (ap is_some parts.0) ∙ open_is in cc)
+
 pub stands_later : (last : Option ℕ) (open_batch : Option Batch) (round found : Option ℕ) (number : ℕ) → round ≡ Some number → open_batch ≡ None
-    → IfSome found (λ n. (n ≡ number) × IsAbove last number × (number ≤ 1000000000)) → IfSome found (StandsIn last open_batch round)
-stands_later last open_batch round None number is closed above = tt
+    → MatchOption found (IsAbove last number × (number ≤ 1000000000) → ⊥) (λ n. (n ≡ number) × IsAbove last number × (number ≤ 1000000000))
+    → MatchOption found ((n : ℕ) → StandsIn last open_batch round n → ⊥) (StandsIn last open_batch round)
+stands_later last open_batch round None number is closed above = no_later last open_batch round number is (λ parts. above (parts.1, parts.2))
 stands_later last open_batch round (Some n) number is closed above =
     subst (λ r. StandsIn last open_batch r n) (sym is)
     (sym above.0, subst (IsAbove last) (sym above.0) above.1, omega (arith, above.0, above.2), closed)
+
+pub not_both : (said : Bool) → said ≡ false → IsTrue said → ⊥
+not_both true off on = let no : true ≡ false = off in cc
+not_both false off on = let no : false ≡ true = on in cc
 
 -- a row's line was told
 pub tells_row : {E : Type 0} (told : Result Bool E) (old new : BookView) (lane : ℕ) (command copy : Command) (reply : Reply) (line : List ℕ) (position : ℕ)
@@ -154,12 +176,30 @@ tells_row (Ok tells) old new lane command copy reply line position is applied sa
     λ on. (reply, applied, is.0 on ∙ (λ i. entry_line (at i) (record { lane = lane; command = same i; reply = reply })))
 tells_row (Err e) old new lane command copy reply line position is applied same at = tt
 
+-- the line of no row's entry
+pub tells_none : {E : Type 0} (told : Result Bool E) (old new : BookView) (lane : ℕ) (command copy : Command) (reply : Reply) (line : List ℕ) (position : ℕ)
+    → IfOk told (λ yes. IsTrue yes ↔ (line ≡ entry_line position (record { lane = lane; command = copy; reply = reply })))
+    → IsApplied old lane command reply new → copy ≡ command → position ≡ next_position old.first old.entries
+    → IfOk told (λ yes. yes ≡ false → line ≡ entry_line (next_position old.first old.entries)
+    (record { lane = lane; command = command; reply = (step old.nodes old.wait old.state command).1 }) → ⊥)
+tells_none (Ok said) old new lane command copy reply line position is applied same at =
+    λ off line_is. not_both said off (is.1 (line_is ∙ (λ i. entry_line (sym at i)
+    (record { lane = lane; command = sym same i; reply = sym (ap (λ p. p.1) applied.stepped) i }))))
+tells_none (Err e) old new lane command copy reply line position is applied same at = tt
+
 -- the line of a close doesn't tell its outcome
 pub tells_close : {E : Type 0} (told : Result Bool E) (line : List ℕ) (position batch : ℕ) (some : Outcome)
     → IfOk told (λ yes. IsTrue yes ↔ (line ≡ entry_line position (record { lane = 0; command = Close batch some; reply = Closed })))
-    → IfOk told (λ yes. IsTrue yes → (outcome : Outcome) → line ≡ entry_line position (record { lane = 0; command = Close batch outcome; reply = Closed }))
-tells_close (Ok tells) line position batch some is = λ on outcome. is.0 on
+    → IfOk told (λ yes. (outcome : Outcome) → IsTrue yes ↔ (line ≡ entry_line position (record { lane = 0; command = Close batch outcome; reply = Closed })))
+tells_close (Ok tells) line position batch some is = λ outcome. is
 tells_close (Err e) line position batch some is = tt
+
+pub no_closing : (said : Bool) (book : BookView) (batch : Batch) (line : List ℕ) (position number : ℕ) → number ≡ batch.number
+    → position ≡ next_position book.first book.entries
+    → ((outcome : Outcome) → IsTrue said ↔ (line ≡ entry_line position (record { lane = 0; command = Close number outcome; reply = Closed })))
+    → said ≡ false → IsNoClosing book batch line
+no_closing said book batch line position number same at is off outcome line_is =
+    not_both said off ((is outcome).1 (line_is ∙ (λ i. entry_line (sym at i) (record { lane = 0; command = Close (sym same i) outcome; reply = Closed }))))
 
 -- no batch is open
 pub none_of : (open_batch : Option Batch) → is_some open_batch ≡ false → open_batch ≡ None
@@ -290,15 +330,27 @@ module _ (settings : Settings) (roads : Roads) (vehicles : List Vehicle) (judged
   -- what was found of an item
   pub tells_unjudged : {X E : Type 0} (batch : Batch) (text : List ℕ) (outcome_of : X → Outcome) (rest_of : X → List ℕ) (found : Result X E) → judged ≡ false
       → IfOk found (λ x. text ≡ lines_text (block_lines true batch.number (outcome_of x)) ++ rest_of x)
+      → IfOk found (λ x. (s : Settings) (r : Roads) (other : Outcome) (behind : List ℕ) → BeginsWithGood s r batch text other behind
+      → (other ≡ outcome_of x) × (behind ≡ rest_of x))
       → IfOk found (λ x. TellsBlock settings roads judged batch text (outcome_of x) (rest_of x))
-  tells_unjudged batch text outcome_of rest_of (Ok x) off is = record { block = is; good = λ on. absurd (let no : true ≡ false = sym on ∙ off in cc) }
-  tells_unjudged batch text outcome_of rest_of (Err e) off is = tt
+  tells_unjudged batch text outcome_of rest_of (Ok x) off is only =
+      record { block = is; good = λ on. absurd (let no : true ≡ false = sym on ∙ off in cc); only = only settings roads }
+  tells_unjudged batch text outcome_of rest_of (Err e) off is only = tt
 
   pub tells_judged : {X E : Type 0} (batch : Batch) (text : List ℕ) (outcome_of : X → Outcome) (rest_of : X → List ℕ) (found : Result X E)
       → IfOk found (λ x. BeginsWithGood settings roads batch text (outcome_of x) (rest_of x))
+      → IfOk found (λ x. (other : Outcome) (behind : List ℕ) → BeginsWithGood settings roads batch text other behind
+      → (other ≡ outcome_of x) × (behind ≡ rest_of x))
       → IfOk found (λ x. TellsBlock settings roads judged batch text (outcome_of x) (rest_of x))
-  tells_judged batch text outcome_of rest_of (Ok x) is = record { block = is.whole; good = λ on. is.good }
-  tells_judged batch text outcome_of rest_of (Err e) is = tt
+  tells_judged batch text outcome_of rest_of (Ok x) is only = record { block = is.whole; good = λ on. is.good; only = only }
+  tells_judged batch text outcome_of rest_of (Err e) is only = tt
+
+  pub tells_no_block : {X E : Type 0} (memory : E) (batch : Batch) (text : List ℕ) (found : Result X E)
+      → IfErr found (λ refusal. refusal ≢ memory → (s : Settings) (r : Roads) (outcome : Outcome) (rest : List ℕ)
+      → BeginsWithGood s r batch text outcome rest → ⊥)
+      → IfErr found (λ refusal. refusal ≢ memory → HasNoBlock settings roads batch text)
+  tells_no_block memory batch text (Ok x) none = tt
+  tells_no_block memory batch text (Err e) none = λ fails. none fails settings roads
 
   pub close_takes : (old new : BookView) (batch : Batch) (line after rest : List ℕ) (told : List Notice) (outcome : Outcome) (position number : ℕ)
       → number ≡ batch.number → position ≡ next_position old.first old.entries → TellsBlock settings roads judged batch after outcome rest
@@ -371,7 +423,8 @@ module _ (settings : Settings) (roads : Roads) (vehicles : List Vehicle) (judged
       let count : length whole - length rest ≡ length read = omega (arith, ap length is, length-append read rest) in
       (λ i. take (count i) (is i)) ∙ take-front read rest
 
-  pub past_is : (text whole kept rest : List ℕ) (size : ℕ) (s : Stand) (b : BookView) → whole ≡ take size text → size ≤ length text → IsWholeText (take size text)
+  pub past_is : (text whole kept rest : List ℕ) (size : ℕ) (s : Stand) (b : BookView) → whole ≡ take size text → size ≤ length text
+      → IsWholeText (take size text)
       → ((m : ℕ) → m ≤ length text → IsWholeText (take m text) → m ≤ size) → Reached settings roads vehicles judged whole s rest → IsDropped rest
       → kept ≡ take (length whole - length rest) whole → b ≡ fresh s.book → IsBook b
       → IsPast settings roads vehicles judged text kept s.last b s.open_batch s.notices

@@ -1,11 +1,13 @@
 -- The past of a day: what a report keeps of it, and where it ends.
-use Rattle.std.specs.Prelude.{◌≡◌, ℕ, ◌≤◌, ◌<◌, ◌^◌, Bool, true, List, [], ◌∷◌, ◌++◌, length, take, fold, Option, None, Some, if◌then◌else◌}
+use Rattle.std.specs.Prelude.{◌≡◌, ◌≢◌, ℕ, ◌≤◌, ◌<◌, ◌^◌, Bool, true, List, [], ◌∷◌, ◌++◌, length, take, fold, Option, None, Some, if◌then◌else◌}
 use Rattle.std.specs.Option.{option_map_or}
 use Rattle.dispatch_engine.specs.lanes.Run.{position_after_run, state_after_run}
 use Rattle.dispatch_report.specs.Round.{end_text, round_line}
 use Rattle.input_rows.specs.declared.script.script_row.ScriptRow.{ScriptRow}
 use Rattle.live_dispatch.specs.Live.{IsBegunRun, journals_text, rows_rounds}
 use Rattle.report_audit.specs.report.Report.{closes}
+use Rattle.report_audit.specs.declared.report.fault.AuditFault.{AuditFault}
+use Rattle.report_audit.specs.declared.report.fault.AuditFault.TheVariants.{OutOfMemory}
 use Rattle.report_audit.specs.report.Types.{JournalsAreTold}
 use Rattle.request_book.specs.Book.{BookView, IsBook, opening}
 use Rattle.request_book.specs.notices.Notices.{entry_notices}
@@ -86,3 +88,7 @@ pub record MayBeLeft (settings : Settings) (roads : Roads) (vehicles : List Vehi
   pub types : JournalsAreTold made
   pub rest : List ℕ
   pub begins : text ++ rest ≡ journals_text true (rows_rounds rows) made ++ end_text (position_after_run 0 made)
+
+-- why a text has no past: memory is wanting, or no run leaves the text
+abbrev pub PastFails : Settings → Roads → List Vehicle → List ℕ → AuditFault → Type 0
+PastFails settings roads vehicles text fault = fault ≢ OutOfMemory → MayBeLeft settings roads vehicles text → ⊥

@@ -1,7 +1,8 @@
 //! The close of the batch that is open, and its block.
-ghost use Rattle.std.specs.Prelude.{◌≡◌, All, Contains, IfOk, IfSome, IsTrue};
+ghost use Rattle.std.specs.Prelude.{◌≡◌, ◌≢◌, All, Contains, IfErr, IfOk, IsTrue, MatchOption, ◌↔◌};
 ghost use Rattle.dispatch_report.specs.Entry.{entry_line};
-ghost use Rattle.report_past.specs.work.Taking.{EntersClose, TakesClose, TellsBlock};
+ghost use Rattle.report_audit.specs.declared.block.refusal.BlockRefusal.TheVariants.{OutOfMemory as NoMemory};
+ghost use Rattle.report_past.specs.work.Taking.{EntersClose, HasNoBlock, IsNoClosing, TakesClose, TellsBlock};
 ghost use Rattle.request_book.specs.Points.{named_nodes};
 ghost use Rattle.request_book.specs.declared.values.command.Command.TheVariants.{Close as Closes};
 ghost use Rattle.request_book.specs.declared.values.reply.Reply.TheVariants.{Closed as IsClosed};
@@ -30,8 +31,9 @@ pub(crate) fn take_close<'a, G: Gate>(
     context: &PastContext<'_, G>,
 ) -> Result<Option<&'a [u8]>, BlockRefusal>
     requires { All (λ node. Contains context.now.network.now.nodes node) (named_nodes snapshot.now) }
-    ensures { IfOk result (λ found. IfSome found (λ rest.
+    ensures close { IfOk result (λ found. MatchOption found (IsNoClosing book.old snapshot.entry.now line.entry.now) (λ rest.
         TakesClose context.entry.now.settings.now context.entry.now.network.now context.entry.now.judge book.old book.new snapshot.entry.now line.entry.now after.entry.now rest.now notices.new.items)) }
+    ensures none { IfErr result (λ refusal. refusal ≢ NoMemory → HasNoBlock context.entry.now.settings.now context.entry.now.network.now snapshot.entry.now after.entry.now) }
 {
     let position = book.next_position();
     if !is_close_line(context.alloc, line, position, snapshot.batch)? {
@@ -55,7 +57,8 @@ fn read_block<'a, G: Gate>(
     context: &PastContext<'_, G>,
 ) -> Result<AuditedBlock<'a>, BlockRefusal>
     requires { All (λ node. Contains context.now.network.now.nodes node) (named_nodes snapshot.now) }
-    ensures { IfOk result (λ block. TellsBlock context.entry.now.settings.now context.entry.now.network.now context.entry.now.judge snapshot.entry.now text.entry.now block.outcome block.rest.now) }
+    ensures block { IfOk result (λ block. TellsBlock context.entry.now.settings.now context.entry.now.network.now context.entry.now.judge snapshot.entry.now text.entry.now block.outcome block.rest.now) }
+    ensures none { IfErr result (λ refusal. refusal ≢ NoMemory → HasNoBlock context.entry.now.settings.now context.entry.now.network.now snapshot.entry.now text.entry.now) }
 {
     if !context.judge {
         return read_outcome(context.alloc, text, snapshot);
@@ -113,7 +116,7 @@ fn enter_close(
 
 /// Whether the line is that of the close of this batch, answered `closed`. The outcome isn't in the line.
 fn is_close_line(alloc: Global, line: &[u8], position: u64, batch: u64) -> Result<bool, OutOfMemory>
-    ensures { IfOk result (λ yes. IsTrue yes → (outcome : OneOutcome) → line.now ≡ entry_line position (record { lane = 0; command = Closes batch outcome; reply = IsClosed })) }
+    ensures { IfOk result (λ yes. (outcome : OneOutcome) → IsTrue yes ↔ (line.now ≡ entry_line position (record { lane = 0; command = Closes batch outcome; reply = IsClosed }))) }
 {
     let outcome = Outcome {
         expired: Sequence::empty(alloc),

@@ -3,7 +3,7 @@
 //! A report may be torn anywhere. `whole_size` says how long its longest beginning is that is whole lines with no block
 //! open. `read_past` runs a book through the entries that stand there: each line must be the one that the book prints, and
 //! each batch is closed with the outcome that its block tells. Nothing is solved. Whether the outcomes are good is asked
-//! only where the caller wants them judged.
+//! only where the caller wants them judged. A text that a run may leave is never refused, wherever it is torn.
 //!
 //! The laws say how a day goes on: what the report tells, where its closes are good, and a run from where it ends, are one
 //! run, and its text is one report.
@@ -16,7 +16,7 @@
 //! let next = past.book.next_position();
 //! ```
 //!
-//! Main clauses: `whole_size`: `whole`, `longest`; `read_past`: `past`; the laws `a_day_goes_on`: `run`, `text`;
+//! Main clauses: `whole_size`: `whole`, `longest`; `read_past`: `past`, `refused`; the laws `a_day_goes_on`: `run`, `text`;
 //! `a_close_ends_its_past`: `good`, `text`, `state`, `position`.
 #![tactic(auto)]
 

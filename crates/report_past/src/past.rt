@@ -1,7 +1,9 @@
 //! The past of a day, read from what its report keeps.
-ghost use Rattle.std.specs.Prelude.{◌≡◌, All, IfOk};
+ghost use Rattle.std.specs.Prelude.{◌≡◌, ◌≢◌, All, IfErr, IfOk};
 ghost use Rattle.request_book.specs.Consistent.{IsNode};
-ghost use Rattle.report_past.specs.Past.{IsPast};
+ghost use Rattle.report_audit.specs.declared.report.fault.AuditFault.TheVariants.{OutOfMemory as NoMemory};
+ghost use Rattle.report_past.specs.Past.{IsPast, PastFails};
+ghost use Rattle.report_past.specs.work.Left.{IsNotLeft};
 ghost use Rattle.report_past.specs.work.Reading.{IsDropped, stand};
 ghost use Rattle.report_past.specs.work.Taking.{Reached, fresh};
 ghost use Rattle.request_book.specs.Book.{IsBook};
@@ -40,6 +42,8 @@ pub struct Past<'a> {
 /// The book is run through the kept part: each entry's line must be the one that the book prints, and each close is entered
 /// with the outcome that its block tells. With `judge` each outcome must be good for its batch; else it is taken as it is
 /// told.
+///
+/// A text that a run may leave is never refused, however it is torn, unless memory is wanting.
 pub fn read_past<'a, G: Gate>(
     rt: &(impl Threads + Sync),
     alloc: Global,
@@ -52,6 +56,7 @@ pub fn read_past<'a, G: Gate>(
 ) -> Result<Past<'a>, AuditFault>
     requires nodes { All (λ vehicle. IsNode network.now.nodes vehicle.node) fleet.now }
     ensures past { IfOk result (λ p. IsPast settings.entry.now network.entry.now fleet.entry.now judge text.entry.now p.kept.now p.last p.book p.open p.notices.items) }
+    ensures refused { IfErr result (PastFails settings.entry.now network.entry.now fleet.entry.now text.entry.now) }
 {
     let size = whole_size(text);
     let (whole, _torn) = text.split_at(size);
@@ -104,8 +109,10 @@ fn read_items<'a, G: Gate>(
     context: &PastContext<'a, G>,
 ) -> Result<&'a [u8], AuditFault>
     requires { Reached context.now.settings.now context.now.network.now context.now.fleet.now context.now.judge context.now.text.now (stand last.old book.old open.old notices.old.items) context.now.text.now }
-    ensures { IfOk result (λ rest. IsDropped rest.now
+    ensures reached { IfOk result (λ rest. IsDropped rest.now
         × Reached context.entry.now.settings.now context.entry.now.network.now context.entry.now.fleet.now context.entry.now.judge context.entry.now.text.now (stand last.new book.new open.new notices.new.items) rest.now) }
+    ensures refused { IfErr result (λ fault. fault ≢ NoMemory
+        → IsNotLeft context.entry.now.settings.now context.entry.now.network.now (stand last.old book.old open.old notices.old.items) context.entry.now.text.now) }
 {
     let mut rest = context.text;
     'items: while !rest.is_empty() {
@@ -123,7 +130,8 @@ fn read_items<'a, G: Gate>(
 
 /// Gives up the journal of a book.
 fn give_up(book: &mut Book) -> Result<(), AuditFault>
-    ensures { IfOk result (λ _. (book.new ≡ fresh book.old) × IsBook book.new) }
+    ensures fresh { IfOk result (λ _. (book.new ≡ fresh book.old) × IsBook book.new) }
+    ensures memory { IfErr result (λ fault. fault ≡ NoMemory) }
 {
     let journal = book.take_round()?;
     drop(journal);

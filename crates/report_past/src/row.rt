@@ -3,10 +3,12 @@ ghost use Rattle.std.specs.Prelude.{◌≡◌, ◌<◌, ◌↔◌, IfOk, IsTrue,
 ghost use Rattle.dispatch_engine.specs.lanes.Lane.{last_sealed};
 ghost use Rattle.dispatch_report.specs.Entry.{entry_line};
 ghost use Rattle.input_rows.specs.script.Round.{MayStand};
-ghost use Rattle.report_past.specs.work.Taking.{TakesRow};
+ghost use Rattle.report_past.specs.work.Taking.{IsNextRow, TakesRow};
 ghost use Rattle.request_book.specs.Book.{IsApplied, next_position};
 ghost use Rattle.request_book.specs.values.Command.{IsNoClose};
+ghost use Rattle.request_book.specs.declared.values.journal.Entry.{Entry as OneEntry};
 ghost use Rattle.request_book.specs.declared.values.reply.Reply.{Reply as OneReply};
+ghost use Rattle.request_book.specs.register.Step.{step};
 
 use dispatch_engine::sealed_by_command;
 use pool_base::OutOfMemory;
@@ -21,7 +23,8 @@ pub(crate) fn take_row(
     open: &mut Option<Snapshot>,
     line: &[u8],
 ) -> Result<bool, OutOfMemory>
-    ensures { IfOk result (λ taken. IsTrue taken → TakesRow book.old book.new open.old open.new line.now) }
+    ensures row { IfOk result (λ taken. IsTrue taken → TakesRow book.old book.new open.old open.new line.now) }
+    ensures none { IfOk result (λ taken. taken ≡ false → (e : OneEntry) → IsNextRow book.old open.old line.now e → ⊥) }
 {
     let Some((lane, command)) = read_command(line) else {
         return Ok(false);
@@ -48,14 +51,14 @@ pub(crate) fn take_row(
 
 /// Whether a row's command may come in a lane: a seal in lane 0 alone, and nothing in lane 0 while a batch is open.
 fn may_come(lane: u8, command: &Command, is_open: bool) -> bool
-    ensures { IsTrue result → (lane < 16) × MayStand lane command.now × (lane ≡ 0 → is_open ≡ false) }
+    ensures { IsTrue result ↔ ((lane < 16) × MayStand lane command.now × (lane ≡ 0 → is_open ≡ false)) }
 {
     may_stand(lane, command) && (lane != 0 || !is_open)
 }
 
 /// Whether a row's command may stand in a lane.
 fn may_stand(lane: u8, command: &Command) -> bool
-    ensures { IsTrue result → (lane < 16) × MayStand lane command.now }
+    ensures { IsTrue result ↔ ((lane < 16) × MayStand lane command.now) }
 {
     match command {
         Command::Seal { .. } => lane == 0,
@@ -73,8 +76,10 @@ fn answered(
     line: &[u8],
 ) -> Result<bool, OutOfMemory>
     requires { IsNoClose command.now }
-    ensures { IfOk result (λ told. IsTrue told → (reply : OneReply) × IsApplied book.old lane command.entry.now reply book.new
+    ensures told { IfOk result (λ told. IsTrue told → (reply : OneReply) × IsApplied book.old lane command.entry.now reply book.new
         × (line.entry.now ≡ entry_line (next_position book.old.first book.old.entries) (record { lane = lane; command = command.entry.now; reply = reply }))) }
+    ensures untold { IfOk result (λ told. told ≡ false → line.entry.now ≡ entry_line (next_position book.old.first book.old.entries)
+        (record { lane = lane; command = command.entry.now; reply = (step book.old.nodes book.old.wait book.old.state command.entry.now).1 }) → ⊥) }
 {
     let position = book.next_position();
     let reply = book.apply(lane, command.copied())?;

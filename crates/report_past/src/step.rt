@@ -1,9 +1,13 @@
 //! One item of a report, taken into the book.
-ghost use Rattle.std.specs.Prelude.{◌≡◌, ◌≤◌, ◌++◌, ◌∷◌, All, Contains, IfOk, IfSome, None, Some, length};
+ghost use Rattle.std.specs.Prelude.{◌≡◌, ◌≢◌, ◌≤◌, ◌++◌, ◌∷◌, ◌⊎◌, ℕ, All, Contains, IfErr, IfOk, IsTrue, MatchOption, None, Some, false, length, true};
+ghost use Rattle.std.specs.Option.{is_some};
+ghost use Rattle.report_audit.specs.declared.report.fault.AuditFault.TheVariants.{OutOfMemory as NoMemory};
+ghost use Rattle.report_past.specs.work.Left.{IsItem, IsNotLeft, StaysLeft};
 ghost use Rattle.report_past.specs.work.Reading.{IsAbove, StandsIn, stand, start_text};
-ghost use Rattle.report_past.specs.work.Taking.{Reached, TakesClose, TakesRow};
+ghost use Rattle.report_past.specs.work.Taking.{HasNoBlock, IsNextRow, IsNoClosing, Reached, TakesClose, TakesRow};
 ghost use Rattle.request_book.specs.Points.{named_nodes};
 ghost use Rattle.request_book.specs.values.Batch.{Batch};
+ghost use Rattle.request_book.specs.declared.values.journal.Entry.{Entry};
 
 use crate::close::take_close;
 use crate::context::PastContext;
@@ -11,7 +15,9 @@ use crate::fault::{block_fault, line_at};
 use crate::item::Item;
 use crate::row::take_row;
 use pool_base::OutOfMemory;
-use report_audit::AuditFault;
+use report_audit::{
+    AuditFault, a_block_ends_once, a_line_between_blocks_has_no_feed, a_line_is_of_one_kind,
+};
 use request_book::{Book, Notice, Snapshot};
 use shared_work::Gate;
 use std::thread::Threads;
@@ -30,21 +36,37 @@ pub(crate) fn take_item<'a, G: Gate>(
     ensures reached { IfOk result (λ rest.
         Reached context.entry.now.settings.now context.entry.now.network.now context.entry.now.fleet.now context.entry.now.judge context.entry.now.text.now (stand last.new book.new open.new notices.new.items) rest.now) }
     ensures shorter { IfOk result (λ rest. length rest.now ≤ length item.entry.after.now) }
+    ensures left { IfOk result (λ rest. IsItem item.entry.round item.entry.lane item.entry.line.now → StaysLeft context.entry.now.settings.now context.entry.now.network.now
+        (stand last.old book.old open.old notices.old.items) (start_text item.entry.round ++ (item.entry.line.now ++ 10 ∷ item.entry.after.now))
+        (stand last.new book.new open.new notices.new.items) rest.now) }
+    ensures refused { IfErr result (λ fault. fault ≢ NoMemory → IsItem item.entry.round item.entry.lane item.entry.line.now → IsNotLeft context.entry.now.settings.now context.entry.now.network.now
+        (stand last.old book.old open.old notices.old.items) (start_text item.entry.round ++ (item.entry.line.now ++ 10 ∷ item.entry.after.now))) }
 {
+    a_line_is_of_one_kind();
+    a_line_between_blocks_has_no_feed();
+    a_block_ends_once();
     book.keeps();
     let Some(number) = number_of(*last, open, item.round) else {
         return Err(start_fault(context.text, *last, &item));
     };
-    if item.lane == 0 && open.is_some() {
+    if is_closing(item.lane, open) {
         close_taken(rt, book, open, notices, &item, context)
     } else {
         row_taken(book, last, open, number, &item, context)
     }
 }
 
+/// Whether an entry of this lane is the close of the batch that is open.
+fn is_closing(lane: u8, open: &Option<Snapshot>) -> bool
+    ensures yes { IsTrue result → (lane ≡ 0) × (is_some open.now ≡ true) }
+    ensures no { result ≡ false → lane ≡ 0 → open.now ≡ None }
+{
+    open.is_some() && lane == 0
+}
+
 /// The round in which an item stands: the last, or a later one that begins before it while no batch is open.
 fn number_of(last: Option<u32>, open: &Option<Snapshot>, round: Option<u32>) -> Option<u32>
-    ensures { IfSome result (StandsIn last open.now round) }
+    ensures { MatchOption result ((n : ℕ) → StandsIn last open.now round n → ⊥) (StandsIn last open.now round) }
 {
     match round {
         None => last,
@@ -58,7 +80,7 @@ fn number_of(last: Option<u32>, open: &Option<Snapshot>, round: Option<u32>) -> 
 
 /// The number, where it is above the last and one that a script may have.
 fn above(last: Option<u32>, number: u32) -> Option<u32>
-    ensures { IfSome result (λ n. (n ≡ number) × IsAbove last number × (number ≤ 1000000000)) }
+    ensures { MatchOption result (IsAbove last number × (number ≤ 1000000000) → ⊥) (λ n. (n ≡ number) × IsAbove last number × (number ≤ 1000000000)) }
 {
     if number > 1_000_000_000 {
         return None;
@@ -92,8 +114,10 @@ fn close_taken<'a, G: Gate>(
     context: &PastContext<'_, G>,
 ) -> Result<&'a [u8], AuditFault>
     requires { (b : Batch) → open.old ≡ Some b → All (λ node. Contains context.now.network.now.nodes node) (named_nodes b) }
-    ensures { IfOk result (λ rest. (open.new ≡ None) × ((b : Batch) × (open.old ≡ Some b)
+    ensures close { IfOk result (λ rest. (open.new ≡ None) × ((b : Batch) × (open.old ≡ Some b)
         × TakesClose context.entry.now.settings.now context.entry.now.network.now context.entry.now.judge book.old book.new b item.entry.now.line.now item.entry.now.after.now rest.now notices.new.items)) }
+    ensures refused { IfErr result (λ fault. fault ≢ NoMemory → (b : Batch) → open.old ≡ Some b
+        → IsNoClosing book.old b item.entry.now.line.now ⊎ HasNoBlock context.entry.now.settings.now context.entry.now.network.now b item.entry.now.after.now) }
 {
     let Some(snapshot) = open.take() else {
         return Err(wrong_line(context.text, item.at));
@@ -116,7 +140,8 @@ fn row_taken<'a, G: Gate>(
     item: &Item<'a>,
     context: &PastContext<'_, G>,
 ) -> Result<&'a [u8], AuditFault>
-    ensures { IfOk result (λ rest. (rest.now ≡ item.entry.now.after.now) × (last.new ≡ Some number) × TakesRow book.old book.new open.old open.new item.entry.now.line.now) }
+    ensures row { IfOk result (λ rest. (rest.now ≡ item.entry.now.after.now) × (last.new ≡ Some number) × TakesRow book.old book.new open.old open.new item.entry.now.line.now) }
+    ensures refused { IfErr result (λ fault. fault ≢ NoMemory → (e : Entry) → IsNextRow book.old open.old item.entry.now.line.now e → ⊥) }
 {
     match take_row(context.alloc, book, open, item.line) {
         Ok(true) => {

@@ -4,5 +4,6 @@ pub mod ReadingLemmas
 pub mod NumeralLemmas
 pub mod HeadLemmas
 pub mod NextLemmas
+pub mod FeedLemmas
 pub mod LineLemmas
 pub mod WholeHead

@@ -175,8 +175,8 @@ three_told {text} words more a b c rest is ends others e =
     )
 
 -- the party is told where it isn't one person
-party_text : (party : ℕ) → 2 ≤ party → (if party == 1 then [] else spaced party) ≡ spaced party
-party_text party more = grind (arith, nat_tests)
+pub party_told : (party : ℕ) → 2 ≤ party → (if party == 1 then [] else spaced party) ≡ spaced party
+party_told party more = grind (arith, nat_tests)
 
 submit_told : {text : List ℕ} (a b c d party : ℕ) (reply : Reply) → IsId a × IsId b × IsId c → IsId d → (1 ≤ party) × (party ≤ 6) → IsReply reply →
     text ≡ (numbered (codes " submit ") a ++ spaced b ++ spaced c) ++ (spaced d ++ ((if party == 1 then [] else spaced party) ++ spaced_reply reply)) →
@@ -200,7 +200,7 @@ command_told (inr (inl is)) =
     let x = three_parts (codes " submit ") (id_field (codes " ") ∷ (codes " ", 2, 6) ∷ []) is in
     let z = x.5.4 in
     let y = reply_told z.1 z.4 in
-    let behind = field_behind (codes " ") x.5.2 (field_behind (codes " ") z.2 y.2 ∙ ap (λ p. p ++ spaced_reply y.0) (sym (party_text z.0 z.3))) in
+    let behind = field_behind (codes " ") x.5.2 (field_behind (codes " ") z.2 y.2 ∙ ap (λ p. p ++ spaced_reply y.0) (sym (party_told z.0 z.3))) in
     submit_told x.0 x.1 x.2 x.5.0 z.0 y.0 x.4 x.5.2.lawful (omega (arith, z.3), z.2.lawful) y.1
     (x.6 ∙ ap (λ r. (numbered (codes " submit ") x.0 ++ spaced x.1 ++ spaced x.2) ++ r) behind)
 command_told (inr (inr (inl (n, rest, b, least, is)))) = let y = reply_told rest is in ((Cancel n, y.0), (b.lawful, y.1), field_behind (codes " cancel ") b y.2)
@@ -238,7 +238,7 @@ submit_kind a b c d (suc (suc n)) reply is time few answers e =
             (reply, answers, refl),
       ),
     )
-    (e ∙ ap (λ p. (numbered (codes " submit ") a ++ spaced b ++ spaced c) ++ (spaced d ++ (p ++ spaced_reply reply))) (party_text persons (omega arith)))))
+    (e ∙ ap (λ p. (numbered (codes " submit ") a ++ spaced b ++ spaced c) ++ (spaced d ++ (p ++ spaced_reply reply))) (party_told persons (omega arith)))))
 
 pub told_command : {text : List ℕ} → IsTextOf told_text IsAnswered text → IsToldByAny commands text
 unfolding numbered
@@ -263,7 +263,7 @@ pub record IsCut (line : List ℕ) (position : ℕ) (after : List ℕ) (lane : �
   pub laned : BeginsWith spaced (λ n. n ≤ 255) after lane rest
   pub told : IsTextOf told_text IsAnswered rest
 
-parts : (p l s c r : List ℕ) → p ++ l ++ s ++ c ++ s ++ r ≡ p ++ (l ++ (s ++ (c ++ (s ++ r))))
+pub parts : (p l s c r : List ℕ) → p ++ l ++ s ++ c ++ s ++ r ≡ p ++ (l ++ (s ++ (c ++ (s ++ r))))
 parts p l s c r = search (rules, append_assoc)
 
 pub entry_cut : {line : List ℕ} {lane : ℕ} → IsNextLine (EntryOf lane) line → (position : ℕ) × (after rest : List ℕ) × IsCut line position after lane rest

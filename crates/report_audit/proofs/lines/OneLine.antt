@@ -15,6 +15,7 @@ use Rattle.report_audit.proofs.Common.{
   FitsStop,
   both_texts,
   BothAre,
+  BlockLine,
   order_text,
   IsOrder,
   PlannedStop,
@@ -141,3 +142,7 @@ block_line_of_one (Leaf x) (Leaf y) ix iy e =
 block_line_of_one Dead Dead ix iy e = refl
 block_line_of_one End End ix iy e = refl
 block_line_of_one _ _ ix iy e = absurd (kinds_differ _ _ e refl)
+
+-- the last line alone is `end`
+pub end_alone : (x : BlockLine) → IsBlockLine x → block_line_text x ≡ codes "end" → x ≡ End
+end_alone x is e = block_line_of_one x End is tt e

@@ -19,7 +19,7 @@ kept_all : (x : ℕ) (ys : List ℕ) → All (λ y. x < y) ys → filter (λ m. 
 kept_all x [] all = refl
 kept_all x (y ∷ ys) all = grind (arith, nat_tests, All-head (λ z. x < z) y ys all, kept_all x ys (All-tail (λ z. x < z) y ys all))
 
-All-distinct : (P : ℕ → Type 0) (xs : List ℕ) → All P xs → All P (distinct xs)
+pub All-distinct : (P : ℕ → Type 0) (xs : List ℕ) → All P xs → All P (distinct xs)
 All-distinct P [] all = all
 All-distinct P (x ∷ xs) all =
     All-cons P x (filter (λ m. not (eqb m x)) (distinct xs)) (All-head P x xs all) (All-filter (λ m. not (eqb m x)) P (distinct xs)
@@ -36,7 +36,7 @@ distinct-append n (x ∷ xs) ys low high =
     ap (λ zs. x ∷ (filter p (distinct xs) ++ zs)) (kept_all x (distinct ys) further)
 
 -- the commands of a round's lane
-abbrev of_round : List ScriptRow → ℕ → ℕ → List Command
+abbrev pub of_round : List ScriptRow → ℕ → ℕ → List Command
 of_round rows number lane = map (λ l. l.command) (filter (λ l. eqb l.round number && eqb l.lane lane) rows)
 
 of_round-append : (xs ys : List ScriptRow) (number lane : ℕ) → of_round (xs ++ ys) number lane ≡ of_round xs number lane ++ of_round ys number lane
@@ -56,7 +56,7 @@ All-of : {X : Type 0} (P : X → Type 0) (xs : List X) → ((x : X) → P x) →
 All-of P [] of = All-nil P
 All-of P (x ∷ xs) of = All-cons P x xs (of x) (All-of P xs of)
 
-All-numbers : (P : ℕ → Type 0) (rows : List ScriptRow) → All (λ l. P l.round) rows → All P (numbers rows)
+pub All-numbers : (P : ℕ → Type 0) (rows : List ScriptRow) → All (λ l. P l.round) rows → All P (numbers rows)
 All-numbers P [] all = All-nil P
 All-numbers P (l ∷ ls) all = All-cons P l.round (numbers ls) (All-head (λ (k : ScriptRow). P k.round) l ls all)
     (All-numbers P ls (All-tail (λ (k : ScriptRow). P k.round) l ls all))

@@ -76,12 +76,12 @@ pub no_close : (lane : ℕ) (command : Command) → MayStand lane command → Is
 no_close lane (Close batch outcome) stands = absurd stands
 no_close lane _ stands = tt
 
-sealed_next : (nodes : List ℕ) (wait : ℕ) (s : State) (command : Command) → IsNoClose command →
+pub sealed_next : (nodes : List ℕ) (wait : ℕ) (s : State) (command : Command) → IsNoClose command →
     (step nodes wait s command).0.sealed ≡ last_sealed s.sealed (snapshot_before wait s command)
 unfolding step submit cancel report pickup dropoff seal
 sealed_next nodes wait s command plain = grind arith
 
-snapshot_none : (wait : ℕ) (s : State) (lane : ℕ) (command : Command) → MayStand lane command → lane ≢ 0 → snapshot_before wait s command ≡ None
+pub snapshot_none : (wait : ℕ) (s : State) (lane : ℕ) (command : Command) → MayStand lane command → lane ≢ 0 → snapshot_before wait s command ≡ None
 snapshot_none wait s lane (Seal now) stands other = absurd (other stands)
 snapshot_none wait s lane _ stands other = refl
 
@@ -152,7 +152,7 @@ pub none_owed : (lane : ℕ) → owed None lane ≡ None
 none_owed zero = refl
 none_owed (suc n) = refl
 
-not_owed : (open_batch : Option Batch) (lane : ℕ) → lane ≢ 0 → owed open_batch lane ≡ None
+pub not_owed : (open_batch : Option Batch) (lane : ℕ) → lane ≢ 0 → owed open_batch lane ≡ None
 not_owed open_batch zero other = absurd (other refl)
 not_owed open_batch (suc n) other = refl
 
@@ -244,7 +244,7 @@ last_none : (sealed : Option Batch) → last_sealed None sealed ≡ sealed
 last_none None = refl
 last_none (Some b) = refl
 
-owes_of : (open_batch sealed : Option Batch) (lane : ℕ) (shown : Option ℕ) → (lane ≡ 0 → open_batch ≡ None) → (lane ≢ 0 → sealed ≡ None) →
+pub owes_of : (open_batch sealed : Option Batch) (lane : ℕ) (shown : Option ℕ) → (lane ≡ 0 → open_batch ≡ None) → (lane ≢ 0 → sealed ≡ None) →
     option_map (λ b. b.number) sealed ≡ shown
     → owed (last_sealed open_batch sealed) lane ≡ shown
 owes_of open_batch sealed zero shown free quiet is = ap (λ (o : Option Batch). option_map (λ b. b.number) (last_sealed o sealed)) (free refl) ∙
@@ -252,7 +252,7 @@ owes_of open_batch sealed zero shown free quiet is = ap (λ (o : Option Batch). 
 owes_of open_batch sealed (suc n) shown free quiet is = let none : sealed ≡ None = quiet (λ e. omega (arith, e)) in ap
     (λ (o : Option Batch). option_map (λ b. b.number) o) (sym none) ∙ is
 
-same_owed : (open_batch sealed : Option Batch) (own lane : ℕ) → (own ≢ 0 → sealed ≡ None) → own ≢ lane →
+pub same_owed : (open_batch sealed : Option Batch) (own lane : ℕ) → (own ≢ 0 → sealed ≡ None) → own ≢ lane →
     owed (last_sealed open_batch sealed) lane ≡ owed open_batch lane
 same_owed open_batch sealed own zero quiet other = ap (λ s. owed (last_sealed open_batch s) 0) (quiet other)
 same_owed open_batch sealed own (suc n) quiet other = refl

@@ -7,10 +7,15 @@ use Rattle.dispatch_report.specs.Block.{block_lines}
 use Rattle.dispatch_report.specs.Entry.{entry_line}
 use Rattle.dispatch_report.specs.Lines.{lines_text}
 use Rattle.input_rows.specs.script.Round.{MayStand}
+use Rattle.report_audit.specs.block.Block.{BeginsWithGood}
+use Rattle.report_audit.specs.lines.Next.{IsEntry}
 use Rattle.report_past.specs.Told.{close_of}
 use Rattle.report_past.specs.work.Reading.{IsReading, Stand}
 use Rattle.request_book.specs.Book.{BookView, IsApplied, next_position}
 use Rattle.request_book.specs.notices.Notices.{entry_notices}
+use Rattle.request_book.specs.register.Step.{step}
+use Rattle.request_book.specs.values.Command.{IsNoClose}
+use Rattle.request_book.specs.declared.values.journal.Entry.{Entry}
 use Rattle.request_book.specs.values.Batch.{Batch}
 use Rattle.request_book.specs.declared.notices.notice.Notice.{Notice}
 use Rattle.request_book.specs.declared.values.command.Command.{Command}
@@ -35,6 +40,16 @@ pub record TakesRow (old new : BookView) (was now : Option Batch) (line : List �
   pub sealed_is : sealed ≡ snapshot_before old.wait old.state command
   pub now_is : now ≡ last_sealed was sealed
   pub line_is : line ≡ entry_line (next_position old.first old.entries) (record { lane = lane; command = command; reply = reply })
+  pub only : (position : ℕ) (e : Entry) → IsEntry position e → IsNoClose e.command → line ≡ entry_line position e → (e.lane ≡ lane) × (e.command ≡ command)
+
+-- the line is that of this entry, a row's that may come next
+pub record IsNextRow (book : BookView) (open_batch : Option Batch) (line : List ℕ) (e : Entry) : Type 0 where
+  pub told : IsEntry (next_position book.first book.entries) e
+  pub stands : MayStand e.lane e.command
+  pub within : e.lane < 16
+  pub free : e.lane ≡ 0 → open_batch ≡ None
+  pub reply : e.reply ≡ (step book.nodes book.wait book.state e.command).1
+  pub line_is : line ≡ entry_line (next_position book.first book.entries) e
 
 -- a book with its journal given up
 abbrev pub fresh : BookView → BookView
@@ -48,10 +63,19 @@ pub record EntersClose (old new : BookView) (batch : ℕ) (outcome : Outcome) (t
   pub fresh_is : new ≡ fresh closed
   pub told_is : told ≡ entry_notices old.state (Close batch outcome) Closed
 
--- the block of this batch comes first, with an outcome that is good where it is judged
+-- the block of this batch comes first, with an outcome that is good where it is judged; no other good outcome's block does
 pub record TellsBlock (settings : Settings) (roads : Roads) (judged : Bool) (batch : Batch) (text : List ℕ) (outcome : Outcome) (rest : List ℕ) : Type 0 where
   pub block : text ≡ lines_text (block_lines true batch.number outcome) ++ rest
   pub good : judged ≡ true → IsGoodOutcome settings roads batch outcome
+  pub only : (other : Outcome) (behind : List ℕ) → BeginsWithGood settings roads batch text other behind → (other ≡ outcome) × (behind ≡ rest)
+
+-- the text begins with no block of a good outcome of this batch
+abbrev pub HasNoBlock : Settings → Roads → Batch → List ℕ → Type 0
+HasNoBlock settings roads batch text = (outcome : Outcome) (rest : List ℕ) → BeginsWithGood settings roads batch text outcome rest → ⊥
+
+-- the line isn't that of the close of this batch, whatever its outcome
+abbrev pub IsNoClosing : BookView → Batch → List ℕ → Type 0
+IsNoClosing book batch line = (outcome : Outcome) → line ≡ entry_line (next_position book.first book.entries) (close_of batch outcome) → ⊥
 
 -- the line is that of the open batch's close, behind it stands its block, and the book took the close
 pub record TakesClose (settings : Settings) (roads : Roads) (judged : Bool) (old new : BookView) (batch : Batch) (line after rest : List ℕ)

@@ -162,6 +162,18 @@ pub wrong_no_good : (settings : Settings) (roads : Roads) (batch : Batch) → Is
 wrong_no_good settings roads batch kept text p wrong other behind good =
     wrong.fails.1 ((good_is_judged settings roads batch kept text wrong.lines wrong.rest wrong.block other behind good).meets p)
 
+-- where another batch's number is told, or what no outcome can tell, there is no good outcome, by whatever settings and network
+module _ (batch : Batch) (kept : IsKept batch) (text : List ℕ) (lines : List BlockLine) (rest : List ℕ) (block : IsBlock text lines rest) where
+  pub other_number_no_good : (told_by lines).batch ≢ batch.number → (settings : Settings) (roads : Roads) (other : Outcome) (behind : List ℕ) →
+      BeginsWithGood settings roads batch text other behind → ⊥
+  other_number_no_good number settings roads other behind good =
+      number ((good_is_judged settings roads batch kept text lines rest block other behind good).meets point.Answer).0
+
+  pub untold_no_good : (p : Point) → IsVerdictOf (λ q. CanBeTold q (told_by lines)) (Fails p) → (settings : Settings) (roads : Roads) (other : Outcome)
+      (behind : List ℕ) → BeginsWithGood settings roads batch text other behind → ⊥
+  untold_no_good p fails settings roads other behind good =
+      fails.1 ((good_is_judged settings roads batch kept text lines rest block other behind good).meets p).2
+
 -- a text that begins with a good block isn't refused
 pub good_not_refused : (settings : Settings) (roads : Roads) (batch : Batch) → IsKept batch → (text : List ℕ) (outcome : Outcome) (rest : List ℕ) →
     BeginsWithGood settings roads batch text outcome rest

@@ -88,7 +88,7 @@ digits_line : (k n : ℕ) (behind : List ℕ) → is_one_line behind ≡ true �
 digits_line zero n behind one = one
 digits_line (suc k) n behind one = search (rules, and_from, glyph_line, cond_both, (digits_line k (n / 10)))
 
-decimal_line : (n : ℕ) → is_one_line (decimal n) ≡ true
+pub decimal_line : (n : ℕ) → is_one_line (decimal n) ≡ true
 unfolding digits
 decimal_line n = digits_line 64 n [] refl
 
@@ -124,7 +124,7 @@ two_line words a b one = append_one_line (numbered words a) (spaced b) (numbered
 ruleset one_lines = (append_one_line, numbered_one_line, signed_one_line, spaced_one_line, many_one_line, stop_one_line, order_one_line)
 
 -- no line of a block has a line feed before its end
-block_line_one_line : (x : BlockLine) → is_one_line (block_line_text x) ≡ true
+pub block_line_one_line : (x : BlockLine) → is_one_line (block_line_text x) ≡ true
 block_line_one_line (Batch n) = search (rules, one_lines)
 block_line_one_line _ = search (rules, one_lines)
 

@@ -1,9 +1,9 @@
 -- An entry's command and reply, by how they are read.
-use Rattle.std.specs.Prelude.{◌≡◌, ℕ, ◌≤◌, ◌⊎◌, List, [], ◌∷◌, ◌++◌, map, codes, Option, None, Some}
+use Rattle.std.specs.Prelude.{◌≡◌, ◌==◌, ℕ, ◌≤◌, ◌⊎◌, if◌then◌else◌, List, [], ◌∷◌, ◌++◌, map, codes, Option, None, Some}
 use Rattle.std.specs.Borrow.{Bor}
 use Rattle.dispatch_report.specs.Entry.{command_text, reply_text}
 use Rattle.dispatch_report.specs.Fits.{IsCommand, IsReply}
-use Rattle.dispatch_report.specs.Words.{numbered}
+use Rattle.dispatch_report.specs.Words.{numbered, spaced}
 use Rattle.report_audit.specs.lines.Reading.{BeginsWith}
 use Rattle.request_book.specs.declared.values.command.Command.{Command}
 use Rattle.request_book.specs.declared.values.reply.BookRefusal.TheVariants.{DuplicateRider, UnknownNode, SamePlace, PoolFull, BookFull, UnknownRider, Ended, UnknownVehicle, NotPromised, VehicleFull, NotAboard, NotThisBatch}
@@ -22,6 +22,10 @@ spaced_reply reply = codes " " ++ reply_text reply
 -- a command and its reply, each behind a space
 abbrev pub told_text : Command × Reply → List ℕ
 told_text told = codes " " ++ (command_text told.0 ++ spaced_reply told.1)
+
+-- the party of a request, told where it isn't one person
+abbrev pub party_text : ℕ → List ℕ
+party_text party = if party == 1 then [] else spaced party
 
 abbrev pub IsAnswered : Command × Reply → Type 0
 IsAnswered told = IsCommand told.0 × IsReply told.1
