@@ -1,5 +1,5 @@
 -- How a call of `resume` ends: at its words and inputs, at its report, or behind them.
-use Rattle.std.proofs.Common.{◌≡◌, ◌≢◌, ℕ, List, length, Ok, refl, sym, subst, inl, inr, ◌⊎◌}
+use Rattle.std.proofs.Common.{◌≡◌, ◌≢◌, ℕ, List, [], ◌∷◌, length, Ok, refl, sym, ap, subst, ◌∙◌, inl, inr, arith, ◌⊎◌}
 use Rattle.ridepool.proofs.Common.{
   AreLimited,
   Change,
@@ -35,9 +35,13 @@ use Rattle.report_audit.specs.declared.report.fault.AuditFault.{AuditFault}
 use Rattle.report_audit.specs.declared.report.fault.AuditFault.TheVariants as audit
 use Rattle.report_audit.specs.lines.Head.{BeginsWithHead}
 use Rattle.report_audit.specs.lines.HeadFault.{HeadFails}
+use Rattle.report_past.specs.Past.{MayBeLeft}
+use Rattle.rider_limits.specs.Settings.{AreResumedBy}
 use Rattle.rider_limits.specs.Words.{resume_fault}
 use Rattle.rider_limits.specs.declared.resume_words.ResumeWords.{ResumeWords}
-use Rattle.ridepool.proofs.CompleteLemmas.{none_is_no_some, not_long}
+use Rattle.rider_limits.specs.declared.settings.TimesWay.{TimesWay}
+use Rattle.ridepool.proofs.CompleteLemmas.{none_is_no_some, not_long, read_of, same_value}
+use Rattle.ridepool.proofs.FleetLemmas.{one_fleet}
 use Rattle.ridepool.proofs.LiveLemmas.{has-header, no-stop}
 use Rattle.ridepool.proofs.ReadingLemmas.{reads_as}
 use Rattle.ridepool.specs.Resume.{
@@ -45,7 +49,6 @@ use Rattle.ridepool.specs.Resume.{
   Day,
   EndsResume,
   ExplainsResume,
-  IsReportRefused,
   HasDay,
   IsFaultlessResume,
   IsNoPast,
@@ -56,7 +59,7 @@ use Rattle.ridepool.specs.Resume.{
   SayResume,
   fault_of_head,
 }
-use Rattle.ridepool.specs.work.Resume.{EndsDay, GotDay, IsReportLimited, TellsDay, TellsNoDay, day_of, with_times}
+use Rattle.ridepool.specs.work.Resume.{EndsDay, GotDay, IsReportLimited, IsUnleft, TellsDay, TellsNoDay, day_of, with_times}
 
 -- why a call ended before its report was read
 module _ (call : ResumeCall) (silent : IsUnbegun call.live) (said : ResumeWords) (words : SayResume call.live.words said) where
@@ -101,13 +104,34 @@ unread-hides s _ (IsUnread.long why) = tt
 unread-hides s _ (IsUnread.failed within rose) = tt
 unread-hides s _ (IsUnread.memory within) = tt
 
+-- no such answer judges a report
+pub unread-unjudged : (s : Change SourceView) (status : RunStatus) → IsUnread s file.Report status → (fault : AuditFault) → status ≢ Report fault
+unread-unjudged s _ (IsUnread.long why) fault is = cc
+unread-unjudged s _ (IsUnread.failed within rose) fault is = cc
+unread-unjudged s _ (IsUnread.memory within) fault is = cc
+
+pub network-unjudged : (s : Change SourceView) (status : RunStatus) → StopsAt s file.Network Network network_in status → (fault : AuditFault) →
+    status ≢ Report fault
+network-unjudged s _ (StopsAt.unread _ (IsUnread.long why)) fault is = cc
+network-unjudged s _ (StopsAt.unread _ (IsUnread.failed within rose)) fault is = cc
+network-unjudged s _ (StopsAt.unread _ (IsUnread.memory within)) fault is = cc
+network-unjudged s _ (StopsAt.refused why reads hides) fault is = cc
+
+pub fleet-unjudged : (s : Change SourceView) (nodes : List ℕ) (status : RunStatus) → StopsAt s file.Fleet Fleet (vehicles_in nodes) status →
+    (fault : AuditFault) →
+    status ≢ Report fault
+fleet-unjudged s nodes _ (StopsAt.unread _ (IsUnread.long why)) fault is = cc
+fleet-unjudged s nodes _ (StopsAt.unread _ (IsUnread.failed within rose)) fault is = cc
+fleet-unjudged s nodes _ (StopsAt.unread _ (IsUnread.memory within)) fault is = cc
+fleet-unjudged s nodes _ (StopsAt.refused why reads hides) fault is = cc
+
 -- a fault of a head is none of memory
 pub head-hides : (fault : HeadFault) → fault_of_head fault ≢ audit.OutOfMemory
 head-hides (of_head.Cut line) is = cc
 head-hides (of_head.Form line) is = cc
 head-hides (of_head.Head line) is = cc
 
--- the end of a call behind its report hides no want of memory
+-- the end of a call behind its report hides no want of memory, and doesn't judge it
 pub ends-hide : (d : Day) (seen : LiveSeen) (status : RunStatus) → EndsResume d seen status → HidesNoMemory status
 ends-hide d seen _ (EndsResume.headless (no_header.Other fields) other silent) = λ is. absurd cc
 ends-hide d seen _ (EndsResume.headless no_header.TooLong other silent) = tt
@@ -115,6 +139,14 @@ ends-hide d seen _ (EndsResume.done _) = tt
 ends-hide d seen _ (EndsResume.unread _ _) = tt
 ends-hide d seen _ (EndsResume.failed _ _) = tt
 ends-hide d seen _ (EndsResume.unstored _) = tt
+
+ends-unjudged : (d : Day) (seen : LiveSeen) (status : RunStatus) → EndsResume d seen status → (fault : AuditFault) → status ≢ Report fault
+ends-unjudged d seen _ (EndsResume.headless (no_header.Other fields) other silent) fault is = cc
+ends-unjudged d seen _ (EndsResume.headless no_header.TooLong other silent) fault is = cc
+ends-unjudged d seen _ (EndsResume.done _) fault is = cc
+ends-unjudged d seen _ (EndsResume.unread _ _) fault is = cc
+ends-unjudged d seen _ (EndsResume.failed _ _) fault is = cc
+ends-unjudged d seen _ (EndsResume.unstored _) fault is = cc
 
 tells-hides : (said : ResumeWords) (roads : Roads) (vehicles : List Vehicle) (bytes : List ℕ) (status : RunStatus) →
     TellsNoDay said roads vehicles bytes status →
@@ -128,12 +160,20 @@ tells-hides said roads vehicles bytes _ why = tt
 
 -- what the head of a report tells of a day
 module _ (said : ResumeWords) (roads : Roads) (vs vehicles : List Vehicle) (bytes text : List ℕ) (are : vs ≡ vehicles) (same : text ≡ bytes) where
+  head-at : (d : Day) (has : HasDay said d bytes) → d.inputs.roads ≡ roads → d.inputs.vehicles ≡ vehicles →
+      BeginsWithHead said.workers roads (length vs) text has.told d.text
+  head-at d has roads_are vehicles_are =
+      subst (λ (r : Roads). BeginsWithHead said.workers r (length vs) text has.told d.text) roads_are
+      (subst (λ (ws : List Vehicle). BeginsWithHead said.workers d.inputs.roads (length ws) text has.told d.text) (vehicles_are ∙ sym are)
+      (subst (λ t. BeginsWithHead said.workers d.inputs.roads (length d.inputs.vehicles) t has.told d.text) (sym same) has.head))
+
   pub head-untold : (fault : HeadFault) (told : AuditFault) → told ≡ fault_of_head fault → HeadFails roads (length vs) text fault
-      → TellsNoDay said roads vehicles bytes (Report told)
-  head-untold fault told is fails = subst (λ (f : AuditFault). TellsNoDay said roads vehicles bytes (Report f)) (sym is) (
+      → ((s : Settings) (rest : List ℕ) → BeginsWithHead said.workers roads (length vs) text s rest → ⊥) → TellsNoDay said roads vehicles bytes (Report told)
+  head-untold fault told is fails none = subst (λ (f : AuditFault). TellsNoDay said roads vehicles bytes (Report f)) (sym is) (
     head-hides fault,
-    IsNoPast.head fault
-        (subst (λ t. HeadFails roads (length vehicles) t fault) same (subst (λ (ws : List Vehicle). HeadFails roads (length ws) text fault) are fails)),
+    IsNoPast.head fault (subst (λ t. HeadFails roads (length vehicles) t fault) same (subst (λ (ws : List Vehicle). HeadFails roads (length ws) text fault) are
+        fails)),
+    (λ d has roads_are vehicles_are left. none has.told d.text (head-at d has roads_are vehicles_are)),
   )
 
   module _ (told settings : Settings) (rest : List ℕ) (is : settings ≡ with_times told said.times)
@@ -150,34 +190,76 @@ module _ (said : ResumeWords) (roads : Roads) (vs vehicles : List Vehicle) (byte
     pub past-told : (kept : Kept) → IsPastOf (day_of settings roads vehicles rest said) kept → TellsDay said roads vehicles bytes settings kept
     past-told kept past = record { text = rest; day = day-told; past = past }
 
-    pub past-untold : (fault : AuditFault) → fault ≢ audit.OutOfMemory → TellsNoDay said roads vehicles bytes (Report fault)
-    past-untold fault other = (other, IsNoPast.past fault (day_of settings roads vehicles rest said) day-told refl refl)
+    pub past-untold : (fault : AuditFault) → fault ≢ audit.OutOfMemory → (MayBeLeft settings roads vehicles rest → ⊥)
+        → ((s : Settings) (after : List ℕ) → BeginsWithHead said.workers roads (length vs) text s after → (s ≡ told) × (after ≡ rest))
+        → TellsNoDay said roads vehicles bytes (Report fault)
+    past-untold fault other refused only = (
+      other,
+      IsNoPast.past fault (day_of settings roads vehicles rest said) day-told refl refl refused,
+      (λ d has roads_are vehicles_are left.
+          let one = only has.told d.text (head-at d has roads_are vehicles_are) in
+          let settings_are : d.inputs.settings ≡ settings = has.settings ∙ ap (λ (s : Settings). with_times s said.times) one.0 ∙ sym is in
+          refused (subst (λ (t : List ℕ). MayBeLeft settings roads vehicles t) one.1
+          (subst (λ (s : Settings). MayBeLeft s roads vehicles d.text) settings_are left))),
+    )
 
--- where nothing is wrong, a call is done or out of memory, or what the report keeps is refused
-module _ (call : ResumeCall) (f : IsFaultlessResume call) (writes : Rose call.live.rest.out.before.faults call.live.rest.out.after.faults → ⊥) where
-  abbrev Complete : RunStatus → Type 0
-  Complete status = (status ≡ Done) ⊎ (status ≡ OutOfMemory) ⊎ IsReportRefused status
+-- words say one thing
+one-saying : (words : List (List ℕ)) (said told : ResumeWords) → AreResumedBy words said → AreResumedBy words told
+    → (said.workers ≡ told.workers) × (said.times ≡ told.times) × (said.judge ≡ told.judge)
+one-saying [] said told are have = absurd are
+one-saying (word ∷ words) said told are have = (are.workers ∙ sym have.workers, grind (arith, are.times, have.times), grind (arith, are.judge, have.judge))
 
-  stop-complete : (said : ResumeWords) (status : RunStatus) → IsResumeStop said call status → Complete status
-  stop-complete said _ (IsResumeStop.inputs status stop report) =
-      absurd (no-stop call.live.network call.live.fleet f.day.inputs f.network_text f.fleet_text f.network f.roads f.fleet f.vehicles status stop)
-  stop-complete said _ (IsResumeStop.report_long roads vehicles read why) = absurd (not_long file.Report call.report f.report_text f.report why)
-  stop-complete said _ (IsResumeStop.report_unread roads vehicles read within rose) = absurd (f.report.faultless rose)
-  stop-complete said _ (IsResumeStop.report_refused roads vehicles fault read why) = inr (inr (fault, refl))
+same-day : (said told : ResumeWords) (d : Day) (bytes : List ℕ) → (said.workers ≡ told.workers) × (said.times ≡ told.times) × (said.judge ≡ told.judge)
+    → HasDay said d bytes → HasDay told d bytes
+same-day said told d bytes same has = record {
+  told = has.told;
+  head = subst (λ w. BeginsWithHead w d.inputs.roads (length d.inputs.vehicles) bytes has.told d.text) same.0 has.head;
+  settings = subst (λ (t : TimesWay). d.inputs.settings ≡ record has.told { times = t }) same.1 has.settings;
+  judged = has.judged ∙ same.2;
+}
 
-  end-complete : (d : Day) (status : RunStatus) → EndsResume d call.live.rest status → Complete status
-  end-complete d _ (EndsResume.done resumes) = inl refl
-  end-complete d _ (EndsResume.headless why other silent) = absurd (has-header call.live.rest.script f.text f.rows why f.told f.header other)
-  end-complete d _ (EndsResume.unread begun rose) = absurd (f.faultless rose)
-  end-complete d _ (EndsResume.failed begun rose) = absurd (writes rose)
-  end-complete d _ (EndsResume.unstored begun) = inr (inl refl)
+-- where nothing is wrong, a call is done or out of memory
+module _ (call : ResumeCall) (f : IsFaultlessResume call) where
+  no-resume-stop : (said : ResumeWords) (status : RunStatus) → IsResumeStop said call status → ((fault : AuditFault) → status ≡ Report fault → ⊥) → ⊥
+  no-resume-stop said _ (IsResumeStop.inputs status stop report) judged =
+      no-stop call.live.network call.live.fleet f.day.inputs f.network_text f.fleet_text f.network f.roads f.fleet f.vehicles status stop
+  no-resume-stop said _ (IsResumeStop.report_long roads vehicles read why) judged = not_long file.Report call.report f.report_text f.report why
+  no-resume-stop said _ (IsResumeStop.report_unread roads vehicles read within rose) judged = f.report.faultless rose
+  no-resume-stop said _ (IsResumeStop.report_refused roads vehicles fault read why) judged = judged fault refl
 
-  complete-resume : (status : RunStatus) → ExplainsResume call status → Complete status
-  complete-resume _ (ExplainsResume.refused fault why network fleet report silent) =
+  no-resume-end : (d : Day) (status : RunStatus) → (Rose call.live.rest.out.before.faults call.live.rest.out.after.faults → ⊥) →
+      EndsResume d call.live.rest status
+      → (status ≡ Done) ⊎ (status ≡ OutOfMemory)
+  no-resume-end d _ writes (EndsResume.done resumes) = inl refl
+  no-resume-end d _ writes (EndsResume.headless why other silent) = absurd (has-header call.live.rest.script f.text f.rows why f.told f.header other)
+  no-resume-end d _ writes (EndsResume.unread begun rose) = absurd (f.faultless rose)
+  no-resume-end d _ writes (EndsResume.failed begun rose) = absurd (writes rose)
+  no-resume-end d _ writes (EndsResume.unstored begun) = inr refl
+
+  complete-resume : (status : RunStatus) → ((fault : AuditFault) → status ≡ Report fault → ⊥)
+      → (Rose call.live.rest.out.before.faults call.live.rest.out.after.faults → ⊥) → ExplainsResume call status → (status ≡ Done) ⊎ (status ≡ OutOfMemory)
+  complete-resume _ judged writes (ExplainsResume.refused fault why network fleet report silent) =
       absurd (none_is_no_some (resume_fault call.live.words) fault f.words.faultless why)
-  complete-resume _ (ExplainsResume.unstored silent) = inr (inl refl)
-  complete-resume _ (ExplainsResume.stopped said status words stop silent) = stop-complete said status stop
-  complete-resume _ (ExplainsResume.ended d status reads ends) = end-complete d status ends
+  complete-resume _ judged writes (ExplainsResume.unstored silent) = inr refl
+  complete-resume _ judged writes (ExplainsResume.stopped said status words stop silent) = absurd (no-resume-stop said status stop judged)
+  complete-resume _ judged writes (ExplainsResume.ended d status reads ends) = no-resume-end d status writes ends
+
+  -- what network, fleet and report were read as is what they tell
+  unleft-is-false : (said : ResumeWords) (roads : Roads) (vehicles : List Vehicle) (bytes : List ℕ) → GotDay call said roads vehicles bytes →
+      IsUnleft said roads vehicles bytes → ⊥
+  unleft-is-false said roads vehicles bytes got unleft =
+      let roads_are : f.day.inputs.roads ≡ roads = same_value (network_in f.network_text) f.day.inputs.roads roads f.roads
+      (read_of call.live.network f.network_text (λ b. network_in b ≡ Ok roads) f.network got.read.network) in
+      let read_fleet : IsFleetIn roads.nodes f.fleet_text vehicles =
+      read_of call.live.fleet f.fleet_text (λ b. IsFleetIn roads.nodes b vehicles) f.fleet got.read.fleet in
+      let vehicles_are : f.day.inputs.vehicles ≡ vehicles =
+      one_fleet roads.nodes f.fleet_text f.day.inputs.vehicles vehicles
+      (subst (λ (r : Roads). IsFleetIn r.nodes f.fleet_text f.day.inputs.vehicles) roads_are f.vehicles) read_fleet in
+      let bytes_are : f.report_text ≡ bytes = read_of call.report f.report_text (λ b. b ≡ bytes) f.report got.report in
+      unleft f.day (subst (HasDay said f.day) bytes_are (same-day f.said said f.day f.report_text
+      (one-saying call.live.words f.said said f.words.given got.words.given) f.has_day)) roads_are vehicles_are
+      (subst (λ (vs : List Vehicle). MayBeLeft f.day.inputs.settings roads vs f.day.text) vehicles_are
+      (subst (λ (r : Roads). MayBeLeft f.day.inputs.settings r f.day.inputs.vehicles f.day.text) roads_are f.left))
 
 -- how a call ended whose inputs were read
 module _ (call : ResumeCall) (said : ResumeWords) (roads : Roads) (vehicles : List Vehicle) (bytes : List ℕ) (got : GotDay call said roads vehicles bytes)
@@ -200,11 +282,18 @@ module _ (call : ResumeCall) (said : ResumeWords) (roads : Roads) (vehicles : Li
   hides (EndsDay.untold why silent script) = tells-hides said roads vehicles bytes status why
   hides (EndsDay.went_on settings text day ends) = ends-hide (day_of settings roads vehicles text said) call.live.rest status ends
 
+  unjudged : IsFaultlessResume call → EndsDay said roads vehicles bytes call.live.rest call.live.script status → (fault : AuditFault) → status ≡ Report fault →
+      ⊥
+  unjudged f (EndsDay.untold why silent script) fault is =
+      let told : TellsNoDay said roads vehicles bytes (Report fault) = subst (TellsNoDay said roads vehicles bytes) is why in
+      unleft-is-false call f said roads vehicles bytes got told.2
+  unjudged f (EndsDay.went_on settings text day ends) fault is = ends-unjudged (day_of settings roads vehicles text said) call.live.rest status ends fault is
+
   pub answers-day : EndsDay said roads vehicles bytes call.live.rest call.live.script status → AreLimited call.live.network call.live.fleet status →
       IsReportLimited call.report status → AnswersResume call status
   answers-day ends limited report = record {
     explained = explained ends;
-    complete = λ f writes. complete-resume call f writes status (explained ends);
+    complete = λ f writes. complete-resume call f status (unjudged f ends) writes (explained ends);
     limited = limited;
     limited_report = report;
     refused = hides ends;
@@ -212,10 +301,10 @@ module _ (call : ResumeCall) (said : ResumeWords) (roads : Roads) (vehicles : Li
 
 -- how a call ended before its report was read
 pub answers-stop : (call : ResumeCall) (status : RunStatus) → ExplainsResume call status → AreLimited call.live.network call.live.fleet status →
-    IsReportLimited call.report status → HidesNoMemory status → AnswersResume call status
-answers-stop call status why limited report hide = record {
+    IsReportLimited call.report status → HidesNoMemory status → ((fault : AuditFault) → status ≢ Report fault) → AnswersResume call status
+answers-stop call status why limited report hide judged = record {
   explained = why;
-  complete = λ f writes. complete-resume call f writes status why;
+  complete = λ f writes. complete-resume call f status judged writes why;
   limited = limited;
   limited_report = report;
   refused = hide;

@@ -22,7 +22,7 @@ use Rattle.report_audit.specs.declared.lines.head_fault.HeadFault.{HeadFault}
 use Rattle.report_audit.specs.declared.lines.head_fault.HeadFault.TheVariants as of_head
 use Rattle.report_audit.specs.declared.report.fault.AuditFault.{AuditFault}
 use Rattle.report_audit.specs.declared.report.fault.AuditFault.TheVariants as audit
-use Rattle.report_past.specs.Past.{IsPast}
+use Rattle.report_past.specs.Past.{IsPast, MayBeLeft}
 use Rattle.report_past.specs.Told.{PastIsGood}
 use Rattle.request_book.specs.Book.{BookView, opening}
 use Rattle.request_book.specs.notices.Told.{HaveHeard}
@@ -173,11 +173,11 @@ fault_of_head (of_head.Cut line) = audit.Cut line
 fault_of_head (of_head.Form line) = audit.Form line
 fault_of_head (of_head.Head line) = audit.Head line
 
--- why a report is no past of a day: its head fails, or what follows can't be read as one
+-- why a report is no past of a day: its head fails, or no run of rows leaves what follows
 pub data IsNoPast (said : ResumeWords) (roads : Roads) (vehicles : List Vehicle) (bytes : List ℕ) : AuditFault → Type 0 where
   head : (fault : HeadFault) → HeadFails roads (length vehicles) bytes fault → IsNoPast said roads vehicles bytes (fault_of_head fault)
   past : (fault : AuditFault) (d : Day) → HasDay said d bytes → d.inputs.roads ≡ roads → d.inputs.vehicles ≡ vehicles
-      → IsNoPast said roads vehicles bytes fault
+      → (MayBeLeft d.inputs.settings roads vehicles d.text → ⊥) → IsNoPast said roads vehicles bytes fault
 
 -- why network, fleet or report stopped a call; those behind it are untouched
 pub data IsResumeStop (said : ResumeWords) (call : ResumeCall) : RunStatus → Type 0 where
@@ -197,8 +197,8 @@ pub data ExplainsResume (call : ResumeCall) : RunStatus → Type 0 where
   stopped : (said : ResumeWords) (status : RunStatus) → SayResume call.live.words said → IsResumeStop said call status → IsUnbegun call.live → ExplainsResume call status
   ended : (d : Day) (status : RunStatus) → ReadsDay call d → EndsResume d call.live.rest status → ExplainsResume call status
 
--- the words are good, network, fleet and report tell texts that give a day, the script tells its bytes and has a header, and no
--- read fails
+-- the words are good, network, fleet and report tell texts that give a day which a run of rows may leave, the script tells its
+-- bytes and has a header, and no read fails
 pub record IsFaultlessResume (call : ResumeCall) : Type 0 where
   pub said : ResumeWords
   pub words : SayResume call.live.words said
@@ -212,24 +212,20 @@ pub record IsFaultlessResume (call : ResumeCall) : Type 0 where
   pub report_text : List ℕ
   pub report : Tells file.Report call.report report_text
   pub has_day : HasDay said day report_text
+  pub left : MayBeLeft day.inputs.settings day.inputs.roads day.inputs.vehicles day.text
   pub text : List ℕ
   pub told : call.live.rest.script ≡ Some text
   pub rows : List ScriptRow
   pub header : live_rows (lines_in text) ≡ Ok rows
   pub faultless : Rose call.live.rest.reads.before call.live.rest.reads.after → ⊥
 
--- the report is refused
-abbrev pub IsReportRefused : RunStatus → Type 0
-IsReportRefused status = (fault : AuditFault) × (status ≡ Report fault)
-
 -- what a call's answer says
 pub record AnswersResume (call : ResumeCall) (status : RunStatus) : Type 0 where
   -- its cause, and what is written
   pub explained : ExplainsResume call status
-  -- where nothing is wrong with words, network, fleet, the report's head and header, and no write fails, all is done or there is no
-  -- memory, whatever the rows, or what the report keeps is refused
-  pub complete : IsFaultlessResume call → (Rose call.live.rest.out.before.faults call.live.rest.out.after.faults → ⊥)
-      → (status ≡ Done) ⊎ (status ≡ OutOfMemory) ⊎ IsReportRefused status
+  -- where nothing is wrong with words, network, fleet, report and header, and no write fails, all is done or there is no
+  -- memory, whatever the rows, and wherever the report breaks off
+  pub complete : IsFaultlessResume call → (Rose call.live.rest.out.before.faults call.live.rest.out.after.faults → ⊥) → (status ≡ Done) ⊎ (status ≡ OutOfMemory)
   -- no more bytes than may be were taken from network, fleet and report
   pub limited : AreLimited call.live.network call.live.fleet status
   pub limited_report : IsWithin file.Report call.report ⊎ (status ≡ TooLong file.Report)

@@ -1,5 +1,5 @@
 //! A day that goes on behind what a report keeps of it: one call beside the others.
-ghost use Rattle.std.specs.Prelude.{◌≡◌, ◌≤◌, ℕ, List, All, IfErr, IfOk, MatchResult, map};
+ghost use Rattle.std.specs.Prelude.{◌≡◌, ◌≢◌, ◌≤◌, ℕ, List, All, IfErr, IfOk, MatchResult, map};
 ghost use Rattle.std.specs.String.{string_bytes};
 ghost use Rattle.input_rows.specs.live.Start.{HasStarted};
 ghost use Rattle.live_dispatch.specs.Desk.{outputs_seen};
@@ -11,6 +11,7 @@ ghost use Rattle.ridepool.specs.Inputs.{IsWithin};
 ghost use Rattle.ridepool.specs.Live.{AreLimited, IsUnbegun, LiveSeen};
 ghost use Rattle.ridepool.specs.Resume.{AnswersResume, CatchesUp, Copies, Day as OneDay, EndsResume, ExplainsResume, IsPastOf, ResumeCall, fault_of_head};
 ghost use Rattle.ridepool.specs.Status.{HidesNoMemory};
+ghost use Rattle.ridepool.specs.declared.status.RunStatus.TheVariants.{Report};
 ghost use Rattle.ridepool.specs.work.Live.{live_seen};
 ghost use Rattle.ridepool.specs.work.Resume.{EndsDay, GoesOn, GotDay, IsBehindClose, IsReportLimited, IsRestartable, RunsBehindIt, StopsCatching, TellsDay, TellsNoDay, day_of, kept_of, with_times};
 
@@ -66,8 +67,8 @@ struct Day<'a> {
 ///
 /// `Done` says that head and kept part, the close of the open batch and the report of a run of the accepted rows are written,
 /// one behind the other. If what the kept blocks tell is good for their batches, that is the report of a run of the kept rows
-/// and then of the accepted ones. With `judge=1` this is asked of each block. `Report` comes where the head fails, or where
-/// what the report keeps can't be read. The other answers are those of `live`.
+/// and then of the accepted ones. With `judge=1` this is asked of each block. `Report` comes only where the head fails or no
+/// run of rows may leave such a report. The other answers are those of `live`.
 pub fn resume<
     R: Source,
     F: Source,
@@ -158,6 +159,7 @@ fn day_inputs<R: Source, F: Source, A: Source>(
         MatchResult result (λ _. IsWithin file.Network network_seen × IsWithin file.Fleet fleet_seen × IsWithin file.Report report_seen)
         (λ status. AreLimited network_seen fleet_seen status × IsReportLimited report_seen status) }
     ensures no_memory { IfErr result HidesNoMemory }
+    ensures unjudged { IfErr result (λ status. (fault : AuditFault) → status ≢ Report fault) }
 {
     let said = match read_resume(words) {
         Ok(said) => said,

@@ -12,6 +12,7 @@ use Rattle.pool_base.specs.declared.which.Which.TheVariants as file
 use Rattle.pool_io.specs.Faults.{Rose}
 use Rattle.pool_io.specs.Views.{Change, IsUntouched, SourceView}
 use Rattle.report_audit.specs.declared.report.fault.AuditFault.TheVariants as audit
+use Rattle.report_past.specs.Past.{MayBeLeft}
 use Rattle.report_past.specs.declared.past.Past.{Past}
 use Rattle.request_book.specs.Book.{BookView}
 use Rattle.request_book.specs.Points.{named_nodes}
@@ -52,10 +53,15 @@ pub record TellsDay (said : ResumeWords) (roads : Roads) (vehicles : List Vehicl
   pub day : HasDay said (day_of settings roads vehicles text said) bytes
   pub past : IsPastOf (day_of settings roads vehicles text said) kept
 
+-- whatever day the bytes tell, no run of rows may leave what stands behind its head
+abbrev pub IsUnleft : ResumeWords → Roads → List Vehicle → List ℕ → Type 0
+IsUnleft said roads vehicles bytes =
+    (d : Day) → HasDay said d bytes → d.inputs.roads ≡ roads → d.inputs.vehicles ≡ vehicles → MayBeLeft d.inputs.settings roads vehicles d.text → ⊥
+
 -- why they don't
 abbrev pub TellsNoDay : ResumeWords → Roads → List Vehicle → List ℕ → RunStatus → Type 0
 TellsNoDay said roads vehicles bytes (Report fault) =
-    (fault ≢ audit.OutOfMemory) × IsNoPast said roads vehicles bytes fault
+    (fault ≢ audit.OutOfMemory) × IsNoPast said roads vehicles bytes fault × IsUnleft said roads vehicles bytes
 TellsNoDay said roads vehicles bytes OutOfMemory = Unit {0}
 TellsNoDay said roads vehicles bytes _ = ⊥
 

@@ -1,17 +1,12 @@
-use crate::live::giving_sink::GivingSink;
-use crate::live::session::{Opened, rows_given};
+use crate::live::session::{Opened, close, rows_given};
 use crate::named::source_of;
-use crate::notices::opening_sink::OpeningSink;
-use crate::notices::{notices_path, tell_lost};
 use crate::relay::{GivingUp, Relayed};
 use crate::terminal_of;
 use crate::watched_gate::WatchedGate;
-use crate::watched_sink::WatchedSink;
 use pool_base::OutOfMemory;
-use pool_io::{StdSink, StdSource};
-use ridepool::{LiveEnd, RunStatus, resume};
+use pool_io::StdSource;
+use ridepool::{RunStatus, resume};
 use rider_limits::read_resume;
-use std::io::Stderr;
 use std::sync::Wait;
 use std::thread::Threads;
 
@@ -42,22 +37,16 @@ fn resume_from<R: Threads + Wait + Copy + Send + Sync + 'static>(
     script: StdSource<Relayed<R>>,
     giving: GivingUp<R>,
 ) -> RunStatus {
-    let path = notices_path(rt, named);
-    let Ok(theirs) = giving.share() else {
-        return RunStatus::OutOfMemory;
-    };
-    let Ok(opened) = Opened::by(rt, named) else {
+    let Ok(opened) = Opened::by(rt, named, &giving) else {
         return RunStatus::OutOfMemory;
     };
     let Opened {
-        file,
+        sink,
         told,
         notifiers,
         listener,
     } = opened;
     let given = notifiers.len();
-    let sink = OpeningSink::over(rt, StdSink::over(rt.stdout()), path, file);
-    let sink = WatchedSink::over(rt.alloc(), sink, None::<Stderr>);
     let ended = resume(
         threads,
         rt.alloc(),
@@ -66,19 +55,10 @@ fn resume_from<R: Threads + Wait + Copy + Send + Sync + 'static>(
         &mut source_of(rt, named, "fleet"),
         &mut source_of(rt, named, "report"),
         script,
-        GivingSink::over(sink, Some(theirs)),
+        sink,
         notifiers,
         &WatchedGate::giving(rt.alloc(), terminal_of(rt), Some(giving)),
         listener,
     );
-    let LiveEnd {
-        script,
-        out,
-        notifiers,
-        status,
-    } = ended;
-    drop(script);
-    drop(out);
-    tell_lost(rt, notifiers.len() < given, &told);
-    status
+    close(rt, ended, given, &told)
 }

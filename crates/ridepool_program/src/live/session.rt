@@ -10,10 +10,11 @@ use crate::terminal_of;
 use crate::watched_gate::WatchedGate;
 use crate::watched_sink::WatchedSink;
 use pool_base::OutOfMemory;
-use pool_io::{StdSink, StdSource};
+use pool_io::{Sink, Source, StdSink, StdSource};
+use request_book::Notifier;
 use ridepool::{LineNotifier, LiveEnd, RunStatus, live, words_of_run};
 use rider_limits::{read_words, value_of};
-use std::io::Stderr;
+use std::io::{Stderr, Stdout};
 use std::sync::Wait;
 use std::thread::Threads;
 
@@ -59,22 +60,16 @@ fn live_from<R: Threads + Wait + Copy + Send + Sync + 'static>(
     script: StdSource<Relayed<R>>,
     giving: GivingUp<R>,
 ) -> RunStatus {
-    let path = notices_path(rt, named);
-    let Ok(theirs) = giving.share() else {
-        return RunStatus::OutOfMemory;
-    };
-    let Ok(opened) = Opened::by(rt, named) else {
+    let Ok(opened) = Opened::by(rt, named, &giving) else {
         return RunStatus::OutOfMemory;
     };
     let Opened {
-        file,
+        sink,
         told,
         notifiers,
         listener,
     } = opened;
     let given = notifiers.len();
-    let sink = OpeningSink::over(rt, StdSink::over(rt.stdout()), path, file);
-    let sink = WatchedSink::over(rt.alloc(), sink, None::<Stderr>);
     let ended = live(
         threads,
         rt.alloc(),
@@ -82,36 +77,36 @@ fn live_from<R: Threads + Wait + Copy + Send + Sync + 'static>(
         &mut source_of(rt, named, "network"),
         &mut source_of(rt, named, "fleet"),
         script,
-        GivingSink::over(sink, Some(theirs)),
+        sink,
         notifiers,
         &WatchedGate::giving(rt.alloc(), terminal_of(rt), Some(giving)),
         listener,
     );
-    let LiveEnd {
-        script,
-        out,
-        notifiers,
-        status,
-    } = ended;
-    drop(script);
-    drop(out);
-    tell_lost(rt, notifiers.len() < given, &told);
-    status
+    close(rt, ended, given, &told)
 }
+
+/// The sink of a report, which opens the file of the notices as it is written, shows a terminal what was written, and gives
+/// up a read where a write fails.
+type Printer<'a, R> =
+    GivingSink<WatchedSink<OpeningSink<'a, StdSink<Stdout>>, Stderr>, R>;
 
 /// What a call opens before it begins.
 #[derive(Drop)]
-pub(crate) struct Opened {
-    pub(crate) file: SharedFile,
-    /// The same file, to ask whether it could be opened.
+pub(crate) struct Opened<'a, R> {
+    pub(crate) sink: Printer<'a, R>,
+    /// The file of the notices, to ask whether it could be opened.
     pub(crate) told: SharedFile,
     pub(crate) notifiers: Vec<LineNotifier<SharedFile>>,
     pub(crate) listener: RefusedRows<Stderr>,
 }
 
-impl Opened {
+impl<'a, R: Wait + Copy> Opened<'a, R> {
     /// What these words name.
-    pub(crate) fn by(rt: &HostRuntime, named: &[String]) -> Result<Opened, OutOfMemory> {
+    pub(crate) fn by(
+        rt: &'a HostRuntime,
+        named: &'a [String],
+        giving: &GivingUp<R>,
+    ) -> Result<Opened<'a, R>, OutOfMemory> {
         let file = SharedFile::new(rt.alloc())?;
         let told = file.share()?;
         let notifiers = notifiers_to(rt, named, &file)?;
@@ -120,13 +115,35 @@ impl Opened {
             error: rt.stderr(),
             hints: live_hints(rt, named)?,
         };
+        let path = notices_path(rt, named);
+        let sink = OpeningSink::over(rt, StdSink::over(rt.stdout()), path, file);
+        let sink = WatchedSink::over(rt.alloc(), sink, None::<Stderr>);
         Ok(Opened {
-            file,
+            sink: GivingSink::over(sink, Some(giving.share()?)),
             told,
             notifiers,
             listener,
         })
     }
+}
+
+/// Closes what a call gave back, and says where a notice was lost.
+pub(crate) fn close<S: Source + Drop, K: Sink + Drop, N: Notifier + Drop>(
+    rt: &HostRuntime,
+    ended: LiveEnd<S, K, N>,
+    given: usize,
+    told: &SharedFile,
+) -> RunStatus {
+    let LiveEnd {
+        script,
+        out,
+        notifiers,
+        status,
+    } = ended;
+    drop(script);
+    drop(out);
+    tell_lost(rt, notifiers.len() < given, told);
+    status
 }
 
 /// Hints on refused rows, where somebody wants them.

@@ -13,7 +13,7 @@ read_head-requires-clause-few g c = c.args.inputs.now.said.in_range.1
 pub returns-in-Err : goal.returns-in-Err
 returns-in-Err g c =
     head-untold c.args.inputs.now.said c.args.inputs.now.network _ c.args.inputs.now.fleet c.args.inputs.now.report.items _ c.vehicles.ensures.vehicles
-    c.deref.ensures.value c.in-Err.fault c.fault_of_head.result c.fault_of_head.ensures c.in-Err.ensures.fault
+    c.deref.ensures.value c.in-Err.fault c.fault_of_head.result c.fault_of_head.ensures c.in-Err.ensures.fault c.in-Err.ensures.none
 
 pub read_past-requires-clause-nodes : goal.read_past-requires-clause-nodes
 read_past-requires-clause-nodes g c κs within = c.requires.named
@@ -31,3 +31,4 @@ returns-in-Err-read_past g c =
     past-untold c.args.inputs.now.said c.args.inputs.now.network _ c.args.inputs.now.fleet c.args.inputs.now.report.items _ c.vehicles.ensures.vehicles
     c.deref.ensures.value c.in-Ok.head.0 c.with_times-settings.result c.in-Ok.head.1.now c.with_times-settings.ensures c.in-Ok.ensures.read
     c.in-Err-read_past.fault other
+    (c.in-Err-read_past.ensures.refused other) c.in-Ok.ensures.only

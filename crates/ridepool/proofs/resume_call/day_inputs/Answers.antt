@@ -6,10 +6,13 @@ use Rattle.ridepool.proofs.LiveLemmas.{stop-limited}
 use Rattle.ridepool.proofs.ReadingLemmas.{reads_within}
 use Rattle.ridepool.proofs.ResumeExitLemmas.{
   fleet-stopped,
+  fleet-unjudged,
   network-stopped,
+  network-unjudged,
   report-stopped,
   unread-hides,
   unread-limited,
+  unread-unjudged,
 }
 use Rattle.pool_base.specs.declared.which.Which.TheVariants as file
 use Rattle.ridepool.specs.Resume.{ExplainsResume, SayResume}
@@ -53,6 +56,9 @@ returns-in-Err-network_from-clause-limited g c = (
 pub returns-in-Err-network_from-clause-no_memory : goal.returns-in-Err-network_from-clause-no_memory
 returns-in-Err-network_from-clause-no_memory g c = stop_hides _ file.Network _ _ c.in-Err-network_from.status c.in-Err-network_from.ensures
 
+pub returns-in-Err-network_from-clause-unjudged : goal.returns-in-Err-network_from-clause-unjudged
+returns-in-Err-network_from-clause-unjudged g c = network-unjudged _ c.in-Err-network_from.status c.in-Err-network_from.ensures
+
 pub returns-in-Err-fleet_from-clause-got : goal.returns-in-Err-fleet_from-clause-got
 returns-in-Err-fleet_from-clause-got g c script rest silent =
     let words : SayResume (map string_bytes c.args.words.now) c.in-Ok.said = record {
@@ -72,6 +78,10 @@ returns-in-Err-fleet_from-clause-limited g c = (
 
 pub returns-in-Err-fleet_from-clause-no_memory : goal.returns-in-Err-fleet_from-clause-no_memory
 returns-in-Err-fleet_from-clause-no_memory g c = stop_hides _ file.Fleet _ _ c.in-Err-fleet_from.status c.in-Err-fleet_from.ensures.read
+
+pub returns-in-Err-fleet_from-clause-unjudged : goal.returns-in-Err-fleet_from-clause-unjudged
+returns-in-Err-fleet_from-clause-unjudged g c =
+    fleet-unjudged _ c.in-Ok-network_from.network.nodes c.in-Err-fleet_from.status c.in-Err-fleet_from.ensures.read
 
 pub returns-in-Ok-read_input-clause-got : goal.returns-in-Ok-read_input-clause-got
 returns-in-Ok-read_input-clause-got g c script rest = record {
@@ -105,3 +115,6 @@ returns-in-Err-read_input-clause-limited g c = (
 
 pub returns-in-Err-read_input-clause-no_memory : goal.returns-in-Err-read_input-clause-no_memory
 returns-in-Err-read_input-clause-no_memory g c = unread-hides _ c.in-Err-read_input.status c.in-Err-read_input.ensures
+
+pub returns-in-Err-read_input-clause-unjudged : goal.returns-in-Err-read_input-clause-unjudged
+returns-in-Err-read_input-clause-unjudged g c = unread-unjudged _ c.in-Err-read_input.status c.in-Err-read_input.ensures

@@ -16,4 +16,4 @@ returns-in-Err g c =
     rw (kept.0, kept.1, kept.2, kept.3) (answers-stop _ _
     (c.in-Err.ensures.got _ _ (record { script = refl; silent = record { out = refl; notifiers = refl } })) c.in-Err.ensures.limited.0
     c.in-Err.ensures.limited.1
-    c.in-Err.ensures.no_memory)
+    c.in-Err.ensures.no_memory c.in-Err.ensures.unjudged)
