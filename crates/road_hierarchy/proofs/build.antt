@@ -1,0 +1,4 @@
+pub mod Renamed
+pub mod Reading
+pub mod Checking
+pub mod Labelling
