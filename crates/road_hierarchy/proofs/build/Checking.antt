@@ -7,7 +7,7 @@ use Rattle.road_network.specs.declared.arc.Arc.{Arc}
 use Rattle.road_network.specs.declared.hop.Hop.{Hop}
 use Rattle.road_network.specs.Roads.{IsArcAmong, IsNetwork, Roads, hop_of, leaving}
 use Rattle.road_network.specs.Walk.{IsWalk, walk_seconds}
-use Rattle.travel_times.proofs.lemmas.search.SearchLemmas.{arc_of_hop, hop_of_arc}
+use Rattle.travel_times.proofs.lemmas.search.SearchLemmas.{arc_of_hop, hop_of_arc, hops_among}
 use Rattle.road_hierarchy.specs.Hierarchy.{HasWalkWithin, IsHierarchy}
 use Rattle.road_hierarchy.specs.work.build.Turns.{AreTurns, renamed, turn_of}
 use Rattle.road_hierarchy.specs.work.build.Checked.{AreDowns, AreKept, AreUps, IsBacked, IsDown, IsKept, IsPassed, IsReady, IsUp, given_arcs}
@@ -115,3 +115,25 @@ given_match roads turns node hop arc among count inside (k, within, is) from to 
       sym (get_or_default turns behind.0.to 0 behind.0.to to_in) ∙ ap (slice_index turns) to_is ∙ to,
       omega (arith, short, seconds_is),
     )
+
+-- the same of some hop that was found
+pub given_of : (roads : Roads) (turns : List ℕ) (node : ℕ) (hops : List Hop) (arc : Arc) → All (IsArcAmong (length roads.nodes)) roads.arcs → length turns ≡ length roads.nodes → node < length turns → hops ≡ map hop_of (leaving node roads.arcs)
+    → slice_index turns node ≡ arc.from → (hop : Hop) × Contains hops hop × (slice_index turns hop.to ≡ arc.to) × (hop.seconds ≤ arc.seconds) → IsMatchedIn (given_arcs roads turns) arc
+given_of roads turns node hops arc among count inside is from found = given_match roads turns node found.0 arc among count inside (subst (λ (xs : List Hop). Contains xs found.0) is found.1) from found.2 found.3
+
+-- each hop of a node leads to one that has a turn
+pub hops_turned : (roads : Roads) (turns : List ℕ) (node : ℕ) (hops : List Hop) → All (IsArcAmong (length roads.nodes)) roads.arcs → length turns ≡ length roads.nodes → hops ≡ map hop_of (leaving node roads.arcs) → All (λ (hop : Hop). hop.to < length turns) hops
+hops_turned roads turns node hops among count is k d inside =
+    let kept = subst (All (λ (hop : Hop). (hop.to < length roads.nodes) × (hop.seconds ≤ 10000))) (sym is) (hops_among roads.arcs (length roads.nodes) node among) in
+    omega (arith, count, (kept k d inside).0)
+
+-- the hops of one more node are kept
+pub kept_more : (roads : Roads) (turns : List ℕ) (arcs : List Arc) (node start : ℕ) (hops : List Hop) → node < length turns → start ≡ slice_index turns node → hops ≡ map hop_of (leaving node roads.arcs) → All (IsKept arcs turns start) hops
+    → ((k : ℕ) → k < node → All (IsKept arcs turns (turn_of turns k)) (map hop_of (leaving k roads.arcs))) → (k : ℕ) → k < node + 1 → All (IsKept arcs turns (turn_of turns k)) (map hop_of (leaving k roads.arcs))
+kept_more roads turns arcs node start hops inside read is kept before k lt = elim (cases_eq k node) [
+  | inl e ↦
+      let here : All (IsKept arcs turns start) (map hop_of (leaving node roads.arcs)) = subst (All (IsKept arcs turns start)) is kept in
+      let turned : All (IsKept arcs turns (turn_of turns node)) (map hop_of (leaving node roads.arcs)) = subst (λ s. All (IsKept arcs turns s) (map hop_of (leaving node roads.arcs))) (read ∙ get_or_default turns node 0 node inside) here in
+      subst (λ x. All (IsKept arcs turns (turn_of turns x)) (map hop_of (leaving x roads.arcs))) (sym e) turned
+  | inr ne ↦ before k (omega (arith, lt, ne))
+]

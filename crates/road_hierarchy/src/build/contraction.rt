@@ -63,9 +63,9 @@ impl Contraction {
     /// The worth of a node: who has least goes first.
     pub(crate) fn worth(&mut self, node: u32) -> Result<i64, OutOfMemory> {
         self.find_added(node, &FEW_STEPS)?;
-        let ins = self.lists.ins(node).len() as i64;
-        let outs = self.lists.outs(node).len() as i64;
-        let more = (self.added.len() as i64).saturating_sub(ins.saturating_add(outs));
+        let ins = self.lists.ins(node).len();
+        let outs = self.lists.outs(node).len();
+        let more = count_of(self.added.len()).saturating_sub(count_of(ins.saturating_add(outs)));
         let depth = depth_of(&self.depths, node);
         Ok(more.saturating_mul(2).saturating_add(i64::from(depth)))
     }
@@ -74,17 +74,10 @@ impl Contraction {
     pub(crate) fn contract(&mut self, node: u32) -> Result<(), OutOfMemory> {
         self.find_added(node, &MORE_STEPS)?;
         let depth = depth_of(&self.depths, node).saturating_add(1);
-        for step in self.lists.outs(node) {
-            deepen(&mut self.depths, step.node, depth);
-        }
-        for step in self.lists.ins(node) {
-            deepen(&mut self.depths, step.node, depth);
-        }
+        deepen(&mut self.depths, self.lists.outs(node), depth);
+        deepen(&mut self.depths, self.lists.ins(node), depth);
         self.lists.take_out(node);
-        for arc in &self.added {
-            self.lists.put(arc.from, arc.to, arc.seconds, node)?;
-        }
-        Ok(())
+        put_all(&mut self.lists, &self.added, node)
     }
 
     /// Finds the arcs without which a node can't go, by searches of so many steps.
@@ -114,6 +107,11 @@ impl Contraction {
                 return Ok(());
             }
         }
+        self.add_from(node, first)
+    }
+
+    /// Adds an arc for each node behind one to which no way is short enough.
+    fn add_from(&mut self, node: u32, first: Step) -> Result<(), OutOfMemory> {
         for second in self.lists.outs(node) {
             let seconds = first.seconds.saturating_add(second.seconds);
             if second.node != first.node && seconds_of(&self.labels, self.current, second.node) > seconds {
@@ -214,11 +212,26 @@ fn depth_of(depths: &[u32], node: u32) -> u32 {
     }
 }
 
-/// Makes a node as deep as this at least.
-fn deepen(depths: &mut [u32], node: u32, depth: u32) {
-    if let Some(known) = depths.get_mut(node as usize) {
-        *known = (*known).max(depth);
+/// Makes the nodes to which steps lead as deep as this at least.
+fn deepen(depths: &mut [u32], steps: &[Step], depth: u32) {
+    for step in steps {
+        if let Some(known) = depths.get_mut(step.node as usize) {
+            *known = (*known).max(depth);
+        }
     }
+}
+
+/// Puts arcs in that lead by way of a node.
+fn put_all(lists: &mut Lists, added: &[Added], way: u32) -> Result<(), OutOfMemory> {
+    for arc in added {
+        lists.put(arc.from, arc.to, arc.seconds, way)?;
+    }
+    Ok(())
+}
+
+/// A count with a sign; beyond a billion it stays there.
+fn count_of(count: usize) -> i64 {
+    count.min(1_000_000_000) as i64
 }
 
 /// The seconds of the longest of these steps.

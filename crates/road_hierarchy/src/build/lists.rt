@@ -41,7 +41,7 @@ impl Lists {
     {
         for hop in network.arcs_from(node) {
             if hop.to != node {
-                self.put(node as u32, hop.to as u32, hop.seconds, GIVEN)?;
+                self.put(number_of(node), number_of(hop.to), hop.seconds, GIVEN)?;
             }
         }
         Ok(())
@@ -84,19 +84,23 @@ impl Lists {
 
     /// Takes the arcs of a node out of the lists of the others.
     pub(crate) fn take_out(&mut self, node: u32) {
-        let (outs, ins) = (&mut self.outs, &mut self.ins);
-        if let Some(steps) = outs.get(node as usize) {
-            for step in steps {
-                if let Some(others) = ins.get_mut(step.node as usize) {
-                    take_step(others, node);
-                }
-            }
-        }
-        if let Some(steps) = ins.get(node as usize) {
-            for step in steps {
-                if let Some(others) = outs.get_mut(step.node as usize) {
-                    take_step(others, node);
-                }
+        take_from(&self.outs, &mut self.ins, node);
+        take_from(&self.ins, &mut self.outs, node);
+    }
+}
+
+/// A node's number; what doesn't fit is none.
+#[inline]
+pub(crate) fn number_of(node: usize) -> u32 {
+    node.min(GIVEN as usize) as u32
+}
+
+/// Takes a node out of the lists of those to which its own list leads.
+fn take_from(lists: &[Vec<Step>], others: &mut [Vec<Step>], node: u32) {
+    if let Some(steps) = lists.get(node as usize) {
+        for step in steps {
+            if let Some(steps) = others.get_mut(step.node as usize) {
+                take_step(steps, node);
             }
         }
     }

@@ -1,6 +1,7 @@
 //! The order in which nodes take their turns, and the draft that comes of it.
 use crate::build::contraction::Contraction;
 use crate::build::draft::{Draft, GIVEN};
+use crate::build::lists::number_of;
 use pool_base::OutOfMemory;
 use road_network::{Arc, Network};
 use std::alloc::Global;
@@ -38,13 +39,24 @@ impl Turns {
     /// Gives a node the next turn.
     fn take(&mut self, contraction: &Contraction, node: u32) -> Result<(), OutOfMemory> {
         if let Some(turn) = self.turns.get_mut(node as usize) {
-            *turn = self.nodes.len() as u32;
+            *turn = number_of(self.nodes.len());
         }
         self.nodes.push(node)?;
+        self.take_outs(contraction, node)?;
+        self.take_ins(contraction, node)
+    }
+
+    /// Puts in the arcs that leave a node.
+    fn take_outs(&mut self, contraction: &Contraction, node: u32) -> Result<(), OutOfMemory> {
         for step in contraction.lists.outs(node) {
             self.up.push(Arc { from: node, to: step.node, seconds: step.seconds })?;
             self.up_ways.push(step.way)?;
         }
+        Ok(())
+    }
+
+    /// Puts in the arcs that end at a node.
+    fn take_ins(&mut self, contraction: &Contraction, node: u32) -> Result<(), OutOfMemory> {
         for step in contraction.lists.ins(node) {
             self.down.push(Arc { from: step.node, to: node, seconds: step.seconds })?;
             self.down_ways.push(step.way)?;
@@ -79,8 +91,9 @@ fn queue_of(
 ) -> Result<BinaryHeap<Reverse<(i64, u32)>>, OutOfMemory> {
     let mut queue = BinaryHeap::new(alloc);
     for node in 0..nodes {
-        let worth = contraction.worth(node as u32)?;
-        queue.push(Reverse((worth, node as u32)))?;
+        let node = number_of(node);
+        let worth = contraction.worth(node)?;
+        queue.push(Reverse((worth, node)))?;
     }
     Ok(queue)
 }
@@ -210,7 +223,7 @@ fn froms(alloc: Global, arcs: &[Arc]) -> Result<Vec<u32>, OutOfMemory> {
 
 /// Where arcs end, counted from the last node.
 fn ends_from_last(alloc: Global, nodes: usize, arcs: &[Arc]) -> Result<Vec<u32>, OutOfMemory> {
-    let last = nodes.saturating_sub(1) as u32;
+    let last = number_of(nodes.saturating_sub(1));
     let mut ends = Vec::with_capacity(alloc, arcs.len())?;
     for arc in arcs {
         ends.push(last.saturating_sub(arc.to))?;
