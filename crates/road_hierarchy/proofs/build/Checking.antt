@@ -118,7 +118,7 @@ given_match roads turns node hop arc among count inside (k, within, is) from to 
 
 -- the same of some hop that was found
 pub given_of : (roads : Roads) (turns : List ℕ) (node : ℕ) (hops : List Hop) (arc : Arc) → All (IsArcAmong (length roads.nodes)) roads.arcs → length turns ≡ length roads.nodes → node < length turns → hops ≡ map hop_of (leaving node roads.arcs)
-    → slice_index turns node ≡ arc.from → (hop : Hop) × Contains hops hop × (slice_index turns hop.to ≡ arc.to) × (hop.seconds ≤ arc.seconds) → IsMatchedIn (given_arcs roads turns) arc
+    → slice_index turns node ≡ arc.from → ((hop : Hop) × Contains hops hop × (slice_index turns hop.to ≡ arc.to) × (hop.seconds ≤ arc.seconds)) → IsMatchedIn (given_arcs roads turns) arc
 given_of roads turns node hops arc among count inside is from found = given_match roads turns node found.0 arc among count inside (subst (λ (xs : List Hop). Contains xs found.0) is found.1) from found.2 found.3
 
 -- each hop of a node leads to one that has a turn

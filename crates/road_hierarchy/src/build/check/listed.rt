@@ -7,7 +7,14 @@ use road_network::Arc;
 pub(crate) fn are_listed(draft: &Draft) -> bool
     ensures { IsTrue result → All (Contains (draft.now.up.items ++ draft.now.down.items)) draft.now.leaving.items }
 {
-    for arc in &draft.leaving {
+    are_each_listed(draft, &draft.leaving)
+}
+
+/// The same of these arcs.
+fn are_each_listed(draft: &Draft, arcs: &[Arc]) -> bool
+    ensures { IsTrue result → All (Contains (draft.now.up.items ++ draft.now.down.items)) arcs.now }
+{
+    for arc in arcs {
         if !is_listed(draft, *arc) {
             return false;
         }

@@ -1,4 +1,4 @@
-ghost use Rattle.std.specs.Prelude.{◌≡◌, ◌≤◌, ◌<◌, ◌++◌, ℕ, All, Contains, IfOk, IsTrue, length, slice_index_or};
+ghost use Rattle.std.specs.Prelude.{◌≡◌, ◌≤◌, ◌<◌, ◌++◌, ℕ, All, Contains, IfOk, IsTrue, length, slice_index_or, slice_range};
 ghost use Rattle.road_network.specs.declared.arc.Arc.{Arc};
 ghost use Rattle.road_hierarchy.specs.work.build.Checked.{AreDowns, AreFromPlaces, AreUps, IsDown, IsPassed};
 ghost use Rattle.road_hierarchy.specs.work.sweeps.Sweep.{IsWithin, far};
@@ -23,8 +23,21 @@ pub(crate) fn are_passed(alloc: Global, draft: &Draft, rest: u64) -> Result<bool
     ensures { IfOk result (λ passed. IsTrue passed → All (IsPassed (draft.now.up.items ++ draft.now.down.items) draft.now.up.items) draft.now.down.items) }
 {
     let mut search = Search::new(alloc, draft.turns.len(), rest)?;
-    for first in &draft.down {
-        if !is_passed(&mut search, draft, *first)? {
+    are_each_passed(&mut search, draft, &draft.down)
+}
+
+/// The same of these arcs down.
+fn are_each_passed(search: &mut Search, draft: &Draft, downs: &[Arc]) -> Result<bool, OutOfMemory>
+    requires ups { AreUps (length draft.now.turns.items) draft.now.up.items }
+    requires downs { All (IsDown (length draft.now.turns.items)) downs.now }
+    requires listed { All (Contains (draft.now.up.items ++ draft.now.down.items)) draft.now.leaving.items }
+    requires within { All (IsWithin (length draft.now.turns.items)) draft.now.leaving.items }
+    requires length { length search.old.labels.items ≡ length draft.now.turns.items }
+    requires none_later { All (λ label. label.search ≤ search.old.current) search.old.labels.items }
+    ensures { IfOk result (λ passed. IsTrue passed → All (IsPassed (draft.now.up.items ++ draft.now.down.items) draft.now.up.items) downs.now) }
+{
+    for first in downs {
+        if !is_passed(search, draft, *first)? {
             return Ok(false);
         }
     }
@@ -47,7 +60,7 @@ fn is_passed(search: &mut Search, draft: &Draft, first: Arc) -> Result<bool, Out
     if search.rest == 0 || !are_from(&draft.up, first.to, start, end) {
         return Ok(false);
     }
-    let ups = &draft.up[start..end];
+    let ups = between(&draft.up, start, end);
     let most = most_seconds(first, ups);
     if !search.begin(first)? {
         return Ok(false);
@@ -73,6 +86,15 @@ fn are_from(up: &[Arc], node: u32, start: usize, end: usize) -> bool
         return false;
     }
     end == up.len() || up[end].from > node
+}
+
+/// The arcs at these places.
+fn between(arcs: &[Arc], start: usize, end: usize) -> &[Arc]
+    requires rising { start ≤ end }
+    requires within { end ≤ length arcs.now }
+    ensures { result.now ≡ slice_range arcs.now start end }
+{
+    &arcs[start..end]
 }
 
 /// The seconds of the longest way by an arc down and one of these up.
