@@ -7,4 +7,5 @@ pub(crate) mod label;
 pub(crate) mod listed;
 pub(crate) mod order;
 pub(crate) mod past;
+pub(crate) mod ready;
 pub(crate) mod search;

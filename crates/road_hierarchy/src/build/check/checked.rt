@@ -1,10 +1,6 @@
 ghost use Rattle.std.specs.Prelude.{◌≡◌, IfOk, IfSome, length};
 
-use crate::build::check::backed::are_backed;
-use crate::build::check::kept::are_kept;
-use crate::build::check::listed::are_listed;
-use crate::build::check::order::{are_downs, are_turns, are_ups};
-use crate::build::check::past::are_passed;
+use crate::build::check::ready::is_ready;
 use crate::build::draft::Draft;
 use crate::build::turns::draft_of;
 use pool_base::OutOfMemory;
@@ -62,20 +58,7 @@ impl<'a> Hierarchy<'a> {
     ) -> Result<Option<Hierarchy<'a>>, OutOfMemory>
         ensures { IfOk result (λ found. IfSome found (λ hierarchy. hierarchy ≡ network.entry.now)) }
     {
-        let nodes = network.node_count();
-        if draft.turns.len() != nodes || !are_turns(&draft.turns, &draft.nodes) {
-            return Ok(None);
-        }
-        if !are_ups(nodes, &draft.up) || !are_downs(nodes, &draft.down) || !are_listed(&draft) {
-            return Ok(None);
-        }
-        if !are_kept(network, &draft)
-            || !are_backed(network, &draft, &draft.up, &draft.up_ways)
-            || !are_backed(network, &draft, &draft.down, &draft.down_ways)
-        {
-            return Ok(None);
-        }
-        if !are_passed(alloc, &draft, rest)? {
+        if !is_ready(alloc, network, &draft, rest)? {
             return Ok(None);
         }
         let (turns, up, down) = (draft.turns, draft.up, draft.down);
