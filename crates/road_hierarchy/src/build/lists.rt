@@ -1,4 +1,6 @@
 //! The arcs between the nodes that are left, by node.
+ghost use Rattle.std.specs.Prelude.{◌<◌, length};
+
 use crate::build::draft::GIVEN;
 use pool_base::OutOfMemory;
 use road_network::Network;
