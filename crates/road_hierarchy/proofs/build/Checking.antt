@@ -29,6 +29,7 @@ turns_once turns nodes are x y same = elim (cases_lt x (length turns)) [
 ] where
   turn_inside : (z : ℕ) → z < length turns → slice_index turns z ≡ turn_of turns z
   turn_inside z h = get_or_default turns z 0 z h
+
   turn_past : (z : ℕ) → length turns ≤ z → turn_of turns z ≡ z
   turn_past z h = get_or_past turns z z h
 
@@ -91,14 +92,14 @@ ready_of roads turns nodes up down network count are ups downs kept up_backed do
   ups = ups;
   downs = downs;
   hierarchy = checked_hierarchy (given_arcs roads turns) up down
-    (λ arc here. (All-contains (IsUp (length turns)) up arc ups.each here).1)
-    (λ arc here. (All-contains (IsDown (length turns)) down arc downs.each here).1)
-    (λ arc among. elim (Contains-append_cases up down arc among) [
-      | inl here ↦ All-contains (IsBacked (given_arcs roads turns) up down) up arc up_backed here
-      | inr there ↦ All-contains (IsBacked (given_arcs roads turns) up down) down arc down_backed there
-    ])
-    (kept_arcs roads turns (up ++ down) count network.arcs kept)
-    (λ first here. All-contains (IsPassed (up ++ down) up) down first passed here);
+      (λ arc here. (All-contains (IsUp (length turns)) up arc ups.each here).1)
+      (λ arc here. (All-contains (IsDown (length turns)) down arc downs.each here).1)
+      (λ arc among. elim (Contains-append_cases up down arc among) [
+        | inl here ↦ All-contains (IsBacked (given_arcs roads turns) up down) up arc up_backed here
+        | inr there ↦ All-contains (IsBacked (given_arcs roads turns) up down) down arc down_backed there
+      ])
+      (kept_arcs roads turns (up ++ down) count network.arcs kept)
+      (λ first here. All-contains (IsPassed (up ++ down) up) down first passed here);
 }
 
 -- a hop of the network that is no longer matches an arc

@@ -79,19 +79,23 @@ downs_all n count last down all so_far = record {
 -- where the arc before some places starts earlier, and the one behind them later, they hold all that start at a node
 pub from_places : (up : List Arc) (node start end : ℕ) → ((i j : ℕ) (d : Arc) → i ≤ j → j < length up → (get_or up i d).from ≤ (get_or up j d).from) → start ≤ end → end ≤ length up
     → ((k : ℕ) (d : Arc) → k + 1 ≡ start → (get_or up k d).from < node) → ((d : Arc) → end < length up → node < (get_or up end d).from) → AreFromPlaces up node start end
-from_places up node start end sorted rising within before behind = record { rising = rising; within = within; all = λ k d inside is. (
-  elim (cases_lt k start) [
-    | inl lt ↦ let none : ((start ≡ 0) ⊎ ((x : ℕ) × (x + 1 ≡ start))) = split start in elim none [
-      | inl begin ↦ absurd (omega (arith, begin, lt))
-      | inr (x, next) ↦ absurd (omega (arith, before x d next, is, sorted k x d (omega (arith, lt, next)) (omega (arith, next, rising, within, lt, inside))))
-    ]
-    | inr ge ↦ ge
-  ],
-  elim (cases_lt k end) [
-    | inl lt ↦ lt
-    | inr ge ↦ absurd (omega (arith, behind d (omega (arith, ge, inside)), is, sorted end k d ge inside))
-  ],
-); } where
+from_places up node start end sorted rising within before behind = record {
+  rising = rising;
+  within = within;
+  all = λ k d inside is. (
+    elim (cases_lt k start) [
+      | inl lt ↦ let none : ((start ≡ 0) ⊎ ((x : ℕ) × (x + 1 ≡ start))) = split start in elim none [
+        | inl begin ↦ absurd (omega (arith, begin, lt))
+        | inr (x, next) ↦ absurd (omega (arith, before x d next, is, sorted k x d (omega (arith, lt, next)) (omega (arith, next, rising, within, lt, inside))))
+      ]
+      | inr ge ↦ ge
+    ],
+    elim (cases_lt k end) [
+      | inl lt ↦ lt
+      | inr ge ↦ absurd (omega (arith, behind d (omega (arith, ge, inside)), is, sorted end k d ge inside))
+    ],
+  );
+} where
   split : (x : ℕ) → (x ≡ 0) ⊎ ((y : ℕ) × (y + 1 ≡ x))
   split zero = inl refl
   split (suc y) = inr (y, omega arith)

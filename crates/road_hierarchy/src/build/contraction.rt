@@ -45,7 +45,10 @@ impl Contraction {
         rest: u64,
     ) -> Result<Contraction, OutOfMemory> {
         let nodes = network.node_count();
-        let none = Label { search: 0, seconds: 0 };
+        let none = Label {
+            search: 0,
+            seconds: 0,
+        };
         let lists = Lists::of(alloc, network)?;
         let depths = vec![in alloc; 0; nodes]?;
         let labels = vec![in alloc; none; nodes]?;
@@ -114,7 +117,9 @@ impl Contraction {
     fn add_from(&mut self, node: u32, first: Step) -> Result<(), OutOfMemory> {
         for second in self.lists.outs(node) {
             let seconds = first.seconds.saturating_add(second.seconds);
-            if second.node != first.node && seconds_of(&self.labels, self.current, second.node) > seconds {
+            if second.node != first.node
+                && seconds_of(&self.labels, self.current, second.node) > seconds
+            {
                 self.added.push(Added {
                     from: first.node,
                     to: second.node,
@@ -144,13 +149,7 @@ impl Contraction {
     }
 
     /// Looks at the arcs that leave a node, unless it was met by a shorter way since.
-    fn relax(
-        &mut self,
-        past: u32,
-        most: u32,
-        seconds: u32,
-        node: u32,
-    ) -> Result<(), OutOfMemory> {
+    fn relax(&mut self, past: u32, most: u32, seconds: u32, node: u32) -> Result<(), OutOfMemory> {
         if seconds > most || seconds_of(&self.labels, self.current, node) < seconds {
             return Ok(());
         }

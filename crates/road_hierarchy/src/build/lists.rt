@@ -76,10 +76,24 @@ impl Lists {
         way: u32,
     ) -> Result<(), OutOfMemory> {
         if let Some(steps) = self.outs.get_mut(from as usize) {
-            put_step(steps, Step { node: to, seconds, way })?;
+            put_step(
+                steps,
+                Step {
+                    node: to,
+                    seconds,
+                    way,
+                },
+            )?;
         }
         if let Some(steps) = self.ins.get_mut(to as usize) {
-            put_step(steps, Step { node: from, seconds, way })?;
+            put_step(
+                steps,
+                Step {
+                    node: from,
+                    seconds,
+                    way,
+                },
+            )?;
         }
         Ok(())
     }

@@ -49,7 +49,11 @@ impl Turns {
     /// Puts in the arcs that leave a node.
     fn take_outs(&mut self, contraction: &Contraction, node: u32) -> Result<(), OutOfMemory> {
         for step in contraction.lists.outs(node) {
-            self.up.push(Arc { from: node, to: step.node, seconds: step.seconds })?;
+            self.up.push(Arc {
+                from: node,
+                to: step.node,
+                seconds: step.seconds,
+            })?;
             self.up_ways.push(step.way)?;
         }
         Ok(())
@@ -58,7 +62,11 @@ impl Turns {
     /// Puts in the arcs that end at a node.
     fn take_ins(&mut self, contraction: &Contraction, node: u32) -> Result<(), OutOfMemory> {
         for step in contraction.lists.ins(node) {
-            self.down.push(Arc { from: step.node, to: node, seconds: step.seconds })?;
+            self.down.push(Arc {
+                from: step.node,
+                to: node,
+                seconds: step.seconds,
+            })?;
             self.down_ways.push(step.way)?;
         }
         Ok(())
@@ -202,10 +210,7 @@ fn by_starts(alloc: Global, up: &[Arc], down: &[Arc]) -> Result<Vec<Arc>, OutOfM
 }
 
 /// Puts arcs in by what they are sorted by.
-fn push_keys(
-    keys: &mut Vec<(u32, Reverse<u32>, u32)>,
-    arcs: &[Arc],
-) -> Result<(), OutOfMemory> {
+fn push_keys(keys: &mut Vec<(u32, Reverse<u32>, u32)>, arcs: &[Arc]) -> Result<(), OutOfMemory> {
     for arc in arcs {
         keys.push((arc.from, Reverse(arc.to), arc.seconds))?;
     }

@@ -36,10 +36,7 @@ const SEARCHES: u64 = 3_000;
 
 impl<'a> Hierarchy<'a> {
     /// The hierarchy of a network, where it can be made with as much work as it is worth.
-    pub fn build(
-        alloc: Global,
-        network: &'a Network,
-    ) -> Result<Option<Hierarchy<'a>>, OutOfMemory>
+    pub fn build(alloc: Global, network: &'a Network) -> Result<Option<Hierarchy<'a>>, OutOfMemory>
         ensures { IfOk result (λ found. IfSome found (λ hierarchy. hierarchy ≡ network.entry.now)) }
     {
         let search = network.node_count().saturating_add(network.arc_count());

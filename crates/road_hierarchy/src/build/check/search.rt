@@ -31,7 +31,10 @@ impl Search {
         ensures length { IfOk result (λ search. length search.labels.items ≡ nodes) }
         ensures none_later { IfOk result (λ search. All (λ label. label.search ≤ search.current) search.labels.items) }
     {
-        let none = Label { search: 0, seconds: 0 };
+        let none = Label {
+            search: 0,
+            seconds: 0,
+        };
         let labels = vec![in alloc; none; nodes]?;
         Ok(Search {
             labels,
