@@ -1,5 +1,5 @@
 -- Arcs between the first so many nodes.
-use Rattle.std.proofs.Common.{ℕ, ◌+◌, ◌-◌, ◌<◌, ◌≤◌, inl, inr, List, ◌++◌, length, get_or, slice_range, take, drop, All, Contains}
+use Rattle.std.proofs.Common.{ℕ, ◌-◌, inl, inr, List, ◌++◌, get_or, slice_range, drop, All, Contains}
 use Rattle.std.proofs.lemmas.List.Elements.{All-contains, All-drop, All-take, Contains-append_cases}
 use Rattle.road_network.specs.declared.arc.Arc.{Arc}
 use Rattle.road_hierarchy.specs.work.build.Checked.{AreDowns, AreUps, IsDown, IsUp}

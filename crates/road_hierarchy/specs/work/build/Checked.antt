@@ -5,7 +5,7 @@ use Rattle.road_network.specs.declared.hop.Hop.{Hop}
 use Rattle.road_network.specs.Roads.{Roads, hop_of, leaving}
 use Rattle.road_hierarchy.specs.Hierarchy.{HasHighWalkWithin, IsHierarchy}
 use Rattle.road_hierarchy.specs.work.build.Turns.{renamed, turn_of}
-use Rattle.road_hierarchy.specs.work.sweeps.Sweep.{AreInTurn, IsMatchedIn, IsWithin}
+use Rattle.road_hierarchy.specs.work.sweeps.Sweep.{IsMatchedIn, IsWithin}
 
 -- an arc between two of the first n nodes that leads up, and one that leads down
 abbrev pub IsUp : ℕ → Arc → Type 0

@@ -1,4 +1,4 @@
-use Rattle.std.proofs.Common.{◌≡◌, ◌++◌, ◌<◌, inl, inr, length, get_or, sym, ap, ◌∙◌, subst, arith}
+use Rattle.std.proofs.Common.{◌++◌, ◌<◌, inl, inr, length, get_or, sym, ap, ◌∙◌, subst, arith}
 use Rattle.std.proofs.lemmas.Bool.{cases_eq}
 use Rattle.std.proofs.lemmas.List.{get_or_default}
 use Rattle.road_network.specs.declared.arc.Arc.{Arc}
@@ -21,7 +21,8 @@ loop-first-preserved c =
       passed = λ k d lt. elim (cases_eq k c.loop-first.first-index) [
         | inl e ↦
             subst (λ (first : Arc). IsPassed (c.args.draft.now.up.items ++ c.args.draft.now.down.items) c.args.draft.now.up.items first)
-            (get_or_default c.args.downs.now c.loop-first.first-index none d inside ∙ ap (λ x. get_or c.args.downs.now x d) (sym e)) (c.in_ok-is_passed.ensures.passed c.if-not-branch.false)
+            (get_or_default c.args.downs.now c.loop-first.first-index none d inside ∙ ap (λ x. get_or c.args.downs.now x d) (sym e))
+            (c.in_ok-is_passed.ensures.passed c.if-not-branch.false)
         | inr ne ↦ c.loop-first.invariant.passed k d (omega (arith, lt, ne))
       ];
     }

@@ -8,4 +8,5 @@ are_each_passed-requires-clause-downs c = subst (All (IsDown (length c.args.draf
 
 pub returns : goal.returns
 returns c =
-    subst (λ (downs : List Arc). IfOk c.are_each_passed.result (λ passed. IsTrue passed → All (IsPassed (c.args.draft.now.up.items ++ c.args.draft.now.down.items) c.args.draft.now.up.items) downs)) c.deref.ensures.value c.are_each_passed.ensures
+    subst (λ (downs : List Arc). IfOk c.are_each_passed.result (λ passed. IsTrue passed → All
+    (IsPassed (c.args.draft.now.up.items ++ c.args.draft.now.down.items) c.args.draft.now.up.items) downs)) c.deref.ensures.value c.are_each_passed.ensures

@@ -7,8 +7,10 @@ returns-clause-kept c = λ yes. c.if-not-are_kept.ensures refl
 
 pub returns-clause-ups : goal.returns-clause-ups
 returns-clause-ups c = λ yes.
-    subst (All (IsBacked (given_arcs c.args.network.now c.args.draft.now.turns.items) c.args.draft.now.up.items c.args.draft.now.down.items)) c.as_slice-up.ensures.value (c.are_backed-rising.ensures c.if-not-rising.false)
+    subst (All (IsBacked (given_arcs c.args.network.now c.args.draft.now.turns.items) c.args.draft.now.up.items c.args.draft.now.down.items))
+    c.as_slice-up.ensures.value (c.are_backed-rising.ensures c.if-not-rising.false)
 
 pub returns-clause-downs : goal.returns-clause-downs
 returns-clause-downs c = λ yes.
-    subst (All (IsBacked (given_arcs c.args.network.now c.args.draft.now.turns.items) c.args.draft.now.up.items c.args.draft.now.down.items)) c.as_slice-down.ensures.value (c.are_backed-falling.ensures c.if-not-falling.false)
+    subst (All (IsBacked (given_arcs c.args.network.now c.args.draft.now.turns.items) c.args.draft.now.up.items c.args.draft.now.down.items))
+    c.as_slice-down.ensures.value (c.are_backed-falling.ensures c.if-not-falling.false)

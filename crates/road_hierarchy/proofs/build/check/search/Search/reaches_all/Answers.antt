@@ -1,4 +1,4 @@
-use Rattle.std.proofs.Common.{◌≡◌, ◌<◌, inl, inr, length, get_or, sym, ap, ◌∙◌, subst, arith}
+use Rattle.std.proofs.Common.{◌<◌, inl, inr, length, get_or, sym, ap, ◌∙◌, subst, arith}
 use Rattle.std.proofs.lemmas.Bool.{cases_eq}
 use Rattle.std.proofs.lemmas.List.{get_or_default, get_or_read}
 use Rattle.road_network.specs.declared.arc.Arc.{Arc}
@@ -21,6 +21,8 @@ loop-second-preserved c = λ arcs are k d lt.
     elim (cases_eq k c.loop-second.second-index) [
       | inl e ↦
           subst (λ second. IsReached arcs c.args.first second) (get_or_default ups i none d inside ∙ ap (λ x. get_or c.args.ups.now x d) (sym e))
-          (reached arcs c.args.first (get_or ups i none) c.args.self.now.current labels unmet are known.1 (sym (ap (λ (l : Label). l.search) read) ∙ omega (arith, c.if-label-self.false)) (omega (arith, c.if-label-first.false, ap (λ (l : Label). l.seconds) read)))
+          (reached arcs c.args.first (get_or ups i none) c.args.self.now.current labels unmet are known.1
+          (sym (ap (λ (l : Label). l.search) read) ∙ omega (arith, c.if-label-self.false))
+          (omega (arith, c.if-label-first.false, ap (λ (l : Label). l.seconds) read)))
       | inr ne ↦ c.loop-second.invariant arcs are k d (omega (arith, lt, ne))
     ]
