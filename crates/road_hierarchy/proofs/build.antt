@@ -1,0 +1,5 @@
+pub mod Renamed
+pub mod Reading
+pub mod Checking
+pub mod Labelling
+pub mod Within

@@ -1,0 +1,3 @@
+pub mod sweeps
+pub mod build
+pub mod table

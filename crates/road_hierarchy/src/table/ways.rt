@@ -1,0 +1,92 @@
+ghost use Rattle.std.specs.Prelude.{◌≡◌, ◌≤◌, All, Contains, IfOk, IfSome, IsTrue, length, map};
+ghost use Rattle.road_network.specs.Roads.{IsSame, Roads};
+
+use crate::build::check::checked::Hierarchy;
+use crate::table::cells::cells_between;
+use crate::table::same::are_same;
+use pool_base::{NodeId, OutOfMemory, Times};
+use road_network::Network;
+use std::alloc::Global;
+use std::marker::Model;
+use std::sync::OnceLock;
+use std::sync::atomic::{AtomicBool, AtomicU64, Ordering};
+use std::thread::Threads;
+use travel_times::{NetworkWays, Ways, indexes_of, table_of_times};
+
+/// After so many rows a hierarchy pays.
+const ENOUGH: u64 = 500;
+
+/// The travel times of a network: by searches at first, and once enough rows were asked for by a hierarchy, if one can be
+/// made with as much work as is worth it. Contracts see it as the network: nothing hangs on which way it goes.
+#[derive(Drop)]
+pub struct HierarchyWays<'a> {
+    network: &'a Network,
+    workers: u8,
+    /// How many rows were asked for.
+    asked: AtomicU64,
+    /// Whether some caller makes the hierarchy, or made it.
+    begun: AtomicBool,
+    hierarchy: OnceLock<Hierarchy<'a>>,
+}
+
+impl<'a> Model for HierarchyWays<'a> {
+    ghost use Rattle.road_network.specs.Roads.{Roads};
+
+    ghost Value = { Roads };
+
+    ghost view = { λ ways. ways.network.now };
+}
+
+impl<'a> HierarchyWays<'a> {
+    /// The ways of a network, of which no row was asked for.
+    pub fn of(network: &'a Network, workers: u8) -> HierarchyWays<'a>
+        ensures { result ≡ network.entry.now }
+    {
+        HierarchyWays {
+            network,
+            workers,
+            asked: AtomicU64::new(0),
+            begun: AtomicBool::new(false),
+            hierarchy: OnceLock::new(),
+        }
+    }
+
+    /// The hierarchy, if it is made; so many rows more are asked for.
+    fn ready(&self, alloc: Global, rows: u64) -> Option<&Hierarchy<'a>> {
+        let before = self.asked.fetch_add(rows, Ordering::SeqCst);
+        if before < ENOUGH {
+            return None;
+        }
+        if !self.begun.swap(true, Ordering::SeqCst) {
+            if let Ok(Some(hierarchy)) = Hierarchy::build(alloc, self.network) {
+                let _ = self.hierarchy.try_set(hierarchy);
+            }
+        }
+        self.hierarchy.get()
+    }
+}
+
+impl Ways for HierarchyWays<'_> {
+    ghost roads = { λ ways. ways };
+
+    fn table<R: Threads + Sync>(
+        &self,
+        rt: &R,
+        alloc: Global,
+        nodes: &[NodeId],
+    ) -> Result<Times, OutOfMemory> {
+        if let Some(hierarchy) = self.ready(alloc, nodes.len() as u64) {
+            // What a lock gives is known by its type alone: so the network is compared.
+            if are_same(hierarchy.network, self.network) {
+                let points = indexes_of(alloc, self.network, nodes)?;
+                let cells = cells_between(rt, alloc, hierarchy, &points, self.workers)?;
+                return Ok(table_of_times(self.network, &points, cells));
+            }
+        }
+        let rows = NetworkWays {
+            network: self.network,
+            workers: self.workers,
+        };
+        rows.table(rt, alloc, nodes)
+    }
+}
