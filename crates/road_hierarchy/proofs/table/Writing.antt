@@ -3,7 +3,8 @@ use Rattle.std.proofs.Common.{◌≡◌, ◌⊎◌, ℕ, ◌+◌, ◌-◌, ◌*�
 use Rattle.std.proofs.lemmas.Bool.{cases_eq, cases_lt}
 use Rattle.std.proofs.lemmas.List.{get_or_default}
 use Rattle.std.proofs.lemmas.Nat.{mul-add-lt, div-mul-add, mod-mul-add}
-use Rattle.std.proofs.Math.Nat.{mul-le-mul_right, div-mul-le_self, lt-div-mul-add}
+use Rattle.std.proofs.Math.Nat.{mul-le-mul_right, mod-eq-sub-div-mul, div-mul-le_self, lt-div-mul-add, mul-div_cancel}
+use Rattle.std.specs.Fork.{IsChunk}
 use Rattle.road_network.specs.Roads.{Roads}
 use Rattle.road_network.specs.Walk.{IsTimeBetween}
 use Rattle.road_hierarchy.specs.work.sweeps.Lanes.{lane_cell}
@@ -58,6 +59,31 @@ rows_within n start count cells piece room = elim (cases_lt n (start / n + count
   | inl more ↦ absurd (let le : (n + 1) * n ≤ (start / n + count) * n = mul-le-mul_right n (let w : n + 1 ≤ start / n + count = omega (arith, more) in w) in omega (arith, le, piece.begins, piece.within, room, piece.some))
   | inr le ↦ le
 ]
+
+-- so many rows of a piece, before those that are left
+pub block_within : (n start row lanes : ℕ) (cells : List ℕ) → IsPiece n start cells → row + lanes ≤ length cells / n → (start / n + row + lanes ≤ n) × ((row + lanes) * n ≤ length cells)
+block_within n start row lanes cells piece few =
+    let le : (row + lanes) * n ≤ length cells / n * n = mul-le-mul_right n few in
+    let room : (row + lanes) * n ≤ length cells = omega (arith, le, div-mul-le_self (length cells) n) in
+    (omega (arith, rows_within n start (row + lanes) cells piece room), room)
+
+-- a chunk of a table that nobody wrote is a piece
+pub piece_of_chunk : (n rows start : ℕ) (cells chunk : List ℕ) → 0 < n → length cells ≡ n * n → All (λ cell. cell ≡ unwritten) cells → IsChunk cells (rows * n) start chunk → IsPiece n start chunk
+piece_of_chunk n rows start cells chunk some size fresh is =
+    let begins : start ≡ start / (rows * n) * rows * n = omega (arith, is.start_is_multiple, mod-eq-sub-div-mul start (rows * n), div-mul-le_self start (rows * n)) in
+    let from : start / n ≡ start / (rows * n) * rows = ap (λ x. x / n) begins ∙ mul-div_cancel (start / (rows * n) * rows) some in
+    record {
+      some = some;
+      begins = begins ∙ ap (λ x. x * n) (sym from);
+      within = omega (arith, is.in_bounds, size);
+      fresh = λ k d lt. is.elements k d lt ∙ fresh (start + k) d (omega (arith, is.in_bounds, lt));
+    }
+
+-- a cell of a piece is a cell of the table
+pub cell_of_piece : (roads : Roads) (points : List ℕ) (start offset k cell cell' : ℕ) → start + offset ≡ k → cell ≡ cell' → IsCellAt roads points start offset cell → IsCellAt roads points 0 k cell'
+cell_of_piece roads points start offset k cell cell' at is here =
+    subst (λ x. IsCellAt roads points 0 k x) is
+    (subst (λ x. IsTimeBetween roads.arcs (slice_index points (x / length points)) (slice_index points (x % length points)) cell ⊎ (cell ≡ unwritten)) (let e : start + offset ≡ 0 + k = omega (arith, at) in e) here)
 
 -- a cell of the whole table
 pub cell_of_table : (roads : Roads) (points cells : List ℕ) → AreCellsFrom roads points 0 cells → length cells ≡ length points * length points → ((k : ℕ) → k < length cells → slice_index cells k ≡ unwritten → ⊥) → (i j : ℕ) → i < length points → j < length points

@@ -1,4 +1,4 @@
-ghost use Rattle.std.specs.Prelude.{◌≡◌, ◌+◌, ◌*◌, ◌<◌, ◌≤◌, ℕ, All, IfOk, length, slice_index};
+ghost use Rattle.std.specs.Prelude.{◌≡◌, ◌≢◌, ◌+◌, ◌*◌, ◌<◌, ◌≤◌, ℕ, All, IfOk, IsTrue, length, slice_index};
 ghost use Rattle.road_network.specs.Roads.{Roads};
 ghost use Rattle.road_network.specs.Walk.{IsTimeBetween};
 ghost use Rattle.road_hierarchy.specs.work.sweeps.Sweep.{closed_cell};
@@ -41,10 +41,20 @@ pub(crate) fn cells_between(
     }
     let rows = rows_of_a_piece(count, workers as usize, count < FEW);
     write_table(rt, alloc, &part, points, rows.div_ceil(LANES) * LANES, &mut cells);
-    if cells.contains(&UNWRITTEN) {
+    if !are_written(&cells) {
         return Err(OutOfMemory);
     }
     Ok(cells)
+}
+
+/// Whether each cell was written.
+fn are_written(cells: &[u32]) -> bool
+    ensures { IsTrue result → All (λ cell. cell ≢ unwritten) cells.now }
+{
+    if cells.contains(&UNWRITTEN) {
+        return false;
+    }
+    true
 }
 
 /// Writes the cells of a table, so many rows in one piece of work. A piece for which there is no memory is left unwritten.
