@@ -1,4 +1,4 @@
-use Rattle.std.proofs.Common.{◌≡◌, ◌+◌, ◌-◌, ◌*◌, ◌/◌, ◌<◌, ◌≤◌, ◌++◌, length, min, take, drop, inr, refl, sym, ap, ◌∙◌, subst, arith}
+use Rattle.std.proofs.Common.{◌≡◌, ◌+◌, ◌-◌, ◌*◌, ◌/◌, ◌≤◌, length, min, drop, inr, refl, ap, ◌∙◌, subst, arith}
 use Rattle.std.proofs.lemmas.List.{take_at}
 use Rattle.road_hierarchy.specs.work.table.Part.{IsWriting}
 use Rattle.road_hierarchy.proofs.table.Writing.{block_within, writing_all, writing_none}
@@ -10,34 +10,27 @@ returns-in_default-clause-times c = λ roads part k lt. inr (c.requires.piece.fr
 pub loop-block-init : goal.loop-block-init
 loop-block-init c = record {
   size = refl;
-  blocks = omega (arith, c.from_elem.ensures.len, c.in-Ok.blocks.ok.0);
+  blocks = omega arith;
   times = λ roads part. subst (λ row. IsWriting roads c.args.points.now (c.args.start / length c.args.points.now) row c.args.cells.now) (let none : 0 ≡ min (0 * 16) (length c.args.cells.now / length c.args.points.now) = omega arith in none)
       (writing_none roads c.args.points.now (c.args.start / length c.args.points.now) c.args.cells.now c.requires.piece.fresh);
 }
 
 pub write_block-requires-clause-within : goal.write_block-requires-clause-within
 write_block-requires-clause-within c =
-    let few : c.loop-block.block * 16 + min (length c.args.cells.now / length c.args.points.now - c.loop-block.block * 16) 16 ≤ length c.args.cells.now / length c.args.points.now = omega (arith, c.loop-block-test.true) in
-    (block_within (length c.args.points.now) c.args.start (c.loop-block.block * 16) (min (length c.args.cells.now / length c.args.points.now - c.loop-block.block * 16) 16) c.args.cells.now c.requires.piece few).0
+    let few : c.loop-block.block * 16 + c.min-lanes.result ≤ length c.args.cells.now / length c.args.points.now = omega (arith, c.min-lanes.ensures, c.loop-block-test.true) in
+    (block_within (length c.args.points.now) c.args.start (c.loop-block.block * 16) c.min-lanes.result c.args.cells.now c.requires.piece few).0
 
 pub write_block-requires-clause-room : goal.write_block-requires-clause-room
 write_block-requires-clause-room c =
-    let few : c.loop-block.block * 16 + min (length c.args.cells.now / length c.args.points.now - c.loop-block.block * 16) 16 ≤ length c.args.cells.now / length c.args.points.now = omega (arith, c.loop-block-test.true) in
-    omega (
-      arith,
-      c.loop-block.invariant.size,
-      (block_within (length c.args.points.now) c.args.start (c.loop-block.block * 16) (min (length c.args.cells.now / length c.args.points.now - c.loop-block.block * 16) 16) c.args.cells.now c.requires.piece few).1,
-    )
+    let few : c.loop-block.block * 16 + c.min-lanes.result ≤ length c.args.cells.now / length c.args.points.now = omega (arith, c.min-lanes.ensures, c.loop-block-test.true) in
+    omega (arith, c.loop-block.invariant.size, (block_within (length c.args.points.now) c.args.start (c.loop-block.block * 16) c.min-lanes.result c.args.cells.now c.requires.piece few).1)
 
 pub loop-block-preserved : goal.loop-block-preserved
 loop-block-preserved c =
-    let points = c.args.points.now in
-    let from = c.args.start / length c.args.points.now in
     let new = c.write_block.new.blocks in
     let old = c.loop-block.blocks.items in
     let row_is : min (c.loop-block.block * 16) (length c.args.cells.now / length c.args.points.now) ≡ c.loop-block.block * 16 = omega (arith, c.loop-block-test.true) in
-    let next : c.loop-block.block * 16 + min (length c.args.cells.now / length c.args.points.now - c.loop-block.block * 16) 16 ≡ min ((c.loop-block.block + 1) * 16) (length c.args.cells.now / length c.args.points.now) =
-    omega (arith, c.loop-block-test.true) in
+    let next : c.loop-block.block * 16 + c.min-lanes.result ≡ min ((c.loop-block.block + 1) * 16) (length c.args.cells.now / length c.args.points.now) = omega (arith, c.min-lanes.ensures, c.loop-block-test.true) in
     let long : length c.write_block.new.blocks ≡ c.args.part.now.nodes = c.write_block.ensures.blocks ∙ ap length c.deref_mut.ensures.value ∙ c.loop-block.invariant.blocks in
     record {
       size = c.write_block.ensures.size ∙ c.loop-block.invariant.size;
