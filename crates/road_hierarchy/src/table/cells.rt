@@ -95,7 +95,7 @@ fn write_rows(alloc: Global, part: &Part, points: &[usize], start: usize, cells:
     ensures size { length cells.new ≡ length cells.old }
     ensures times { (roads : Roads) → IsPart roads points.now part.now.nodes part.now.turned.items part.now.up.items part.now.down.items → AreCellsFrom roads points.now start cells.new }
 {
-    let Ok(mut blocks) = Vec::from_elem(alloc, [FAR; 16], part.nodes) else {
+    let Ok(mut blocks) = blocks_of(alloc, part.nodes) else {
         return;
     };
     let from = start / points.len();
@@ -105,6 +105,17 @@ fn write_rows(alloc: Global, part: &Part, points: &[usize], start: usize, cells:
         let lanes = (count - row).min(LANES);
         write_block(part, points, from, row, lanes, &mut blocks, cells);
     }
+}
+
+/// A block for each of so many nodes.
+fn blocks_of(alloc: Global, nodes: usize) -> Result<Vec<Block>, OutOfMemory>
+    ensures { IfOk result (λ blocks. length blocks.items ≡ nodes) }
+{
+    let mut blocks = Vec::with_capacity(alloc, nodes)?;
+    for _ in 0..nodes {
+        blocks.push([FAR; 16])?;
+    }
+    Ok(blocks)
 }
 
 /// Writes so many rows of a piece that begins with row `from` of a table: at most one in each lane.
