@@ -1,4 +1,4 @@
-ghost use Rattle.std.specs.Prelude.{◌≡◌, ◌≢◌, ◌+◌, ◌*◌, ◌<◌, ◌≤◌, ℕ, All, IfOk, IsTrue, length, slice_index};
+ghost use Rattle.std.specs.Prelude.{◌≡◌, ◌≢◌, ◌+◌, ◌*◌, ◌<◌, ◌≤◌, ℕ, All, IfOk, IsTrue, length, replicate, slice_index};
 ghost use Rattle.road_network.specs.Roads.{Roads};
 ghost use Rattle.road_network.specs.Walk.{IsTimeBetween};
 ghost use Rattle.road_hierarchy.specs.work.sweeps.Sweep.{closed_cell};
@@ -35,7 +35,7 @@ pub(crate) fn cells_between(
 {
     let count = points.len();
     let part = Part::of(alloc, hierarchy, points)?;
-    let mut cells = vec![in alloc; UNWRITTEN; count * count]?;
+    let mut cells = no_cells(alloc, count * count)?;
     if count == 0 {
         return Ok(cells);
     }
@@ -45,6 +45,13 @@ pub(crate) fn cells_between(
         return Err(OutOfMemory);
     }
     Ok(cells)
+}
+
+/// So many cells that nobody wrote.
+fn no_cells(alloc: Global, count: usize) -> Result<Vec<u32>, OutOfMemory>
+    ensures { IfOk result (λ cells. cells.items ≡ replicate count unwritten) }
+{
+    Ok(vec![in alloc; UNWRITTEN; count]?)
 }
 
 /// Whether each cell was written.
