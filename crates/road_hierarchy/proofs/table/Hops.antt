@@ -60,10 +60,10 @@ time_carried arcs others n among among' same start goal seconds time =
     let back = arc_carried others arcs n among' (λ node lt. sym (same node lt)) in
     elim time [
       | inl least ↦ inl (record {
-          walk = least.walk;
-          walks = walk_carried arcs others there least.walk start goal least.walks;
-          takes = least.takes;
-          least = λ other walks. least.least other (walk_carried others arcs back other start goal walks);
-        })
+        walk = least.walk;
+        walks = walk_carried arcs others there least.walk start goal least.walks;
+        takes = least.takes;
+        least = λ other walks. least.least other (walk_carried others arcs back other start goal walks);
+      })
       | inr none ↦ inr (λ walk walks. none.0 walk (walk_carried others arcs back walk start goal walks), none.1)
     ]

@@ -78,6 +78,7 @@ part_of roads turns up down points turned begun known begun' wanted network read
   where
     long : length turned ≡ length points
     long = ap length same ∙ length-map points (turn_of turns)
+
     turned_is : (i : ℕ) → i < length turned → slice_index turned i ≡ turn_of turns (slice_index points i)
     turned_is i lt = ap (λ xs. slice_index xs i) same ∙ get_or-map (turn_of turns) points i 0 0 (omega (arith, lt, long))
 

@@ -40,7 +40,14 @@ pub(crate) fn cells_between(
         return Ok(cells);
     }
     let rows = rows_of_a_piece(count, workers as usize, count < FEW);
-    write_table(rt, alloc, &part, points, rows.div_ceil(LANES) * LANES, &mut cells);
+    write_table(
+        rt,
+        alloc,
+        &part,
+        points,
+        rows.div_ceil(LANES) * LANES,
+        &mut cells,
+    );
     if !are_written(&cells) {
         return Err(OutOfMemory);
     }
@@ -153,7 +160,13 @@ fn write_block(
         blocks,
     );
     for lane in 0..lanes {
-        write_row(&part.turned, blocks, lane, (row + lane) * points.len(), cells);
+        write_row(
+            &part.turned,
+            blocks,
+            lane,
+            (row + lane) * points.len(),
+            cells,
+        );
     }
 }
 

@@ -29,5 +29,5 @@ loop-lane-preserved c =
       times = λ roads part writing. subst (λ r. IsWriting roads c.args.points.now c.args.from r c.write_row.new.cells) next
           (writing_more roads points turned rows lane c.args.from (c.args.row + c.loop-lane.lane) c.loop-lane.cells c.write_row.new.cells (c.loop-lane.invariant.times roads part writing) c.requires.turned writes
           (λ j hj. subst (λ x. IsTimeBetween roads.arcs (slice_index c.args.points.now x) (slice_index c.args.points.now j) (closed_cell (lane_cell c.times_from.new.rows (slice_index c.args.part.now.turned.items j) c.loop-lane.lane))) here
-              (block_cell roads points turned c.args.part.now.nodes c.args.part.now.up.items c.args.part.now.down.items part first c.args.lanes lane j rows c.requires.turned c.requires.within c.loop-lane-test.true hj gives)));
+          (block_cell roads points turned c.args.part.now.nodes c.args.part.now.up.items c.args.part.now.down.items part first c.args.lanes lane j rows c.requires.turned c.requires.within c.loop-lane-test.true hj gives)));
     }

@@ -21,7 +21,7 @@ pub table_of_times-requires-clause-times : goal.table_of_times-requires-clause-t
 table_of_times-requires-clause-times g c = rw c.deref-2.ensures.value (λ i j hi hj.
     let n : ℕ = length c.in_ok-points.points.items in
     let read : (i j : ℕ) → i < length c.in_ok-points.points.items → j < length c.in_ok-points.points.items
-        → IsTimeBetween c.args.hierarchy.now.arcs (slice_index c.in_ok-points.points.items i) (slice_index c.in_ok-points.points.items j) (slice_index c.in_ok-cells.cells.items (i * length c.in_ok-points.points.items + j)) =
+    → IsTimeBetween c.args.hierarchy.now.arcs (slice_index c.in_ok-points.points.items i) (slice_index c.in_ok-points.points.items j) (slice_index c.in_ok-cells.cells.items (i * length c.in_ok-points.points.items + j)) =
     rw c.deref.ensures.value at c.in_ok-cells.ensures.times in
     c.requires.times (slice_index c.in_ok-points.points.items i) (slice_index c.in_ok-points.points.items j) (slice_index c.in_ok-cells.cells.items (i * n + j)) (read i j hi hj))
 
