@@ -36,24 +36,28 @@ same_all a b count long all so_far = same_lists a b long (λ k d lt.
     none = record { to = 0; seconds = 0 }
 
 -- an arc of one network is one of the other
-arc_carried : (arcs others : List Arc) (n : ℕ) → All (IsArcAmong n) arcs → ((node : ℕ) → node < n → map hop_of (leaving node arcs) ≡ map hop_of (leaving node others)) → (arc : Arc) → Contains arcs arc → Contains others arc
+arc_carried : (arcs others : List Arc) (n : ℕ) → All (IsArcAmong n) arcs
+    → ((node : ℕ) → node < n → map hop_of (leaving node arcs) ≡ map hop_of (leaving node others)) → (arc : Arc) → Contains arcs arc → Contains others arc
 arc_carried arcs others n among same arc here =
     let inside : arc.from < n = (All-contains (IsArcAmong n) arcs arc among here).0 in
     let at = hop_of_arc arcs arc.from arc here refl in
     let lists : map hop_of (leaving arc.from arcs) ≡ map hop_of (leaving arc.from others) = same arc.from inside in
     let within : at.0 < length (map hop_of (leaving arc.from others)) = subst (λ hops. at.0 < length hops) lists at.1 in
-    let read : get_or (map hop_of (leaving arc.from others)) at.0 (hop_of arc) ≡ hop_of arc = subst (λ hops. get_or hops at.0 (hop_of arc) ≡ hop_of arc) lists (at.2 (hop_of arc)) in
+    let read : get_or (map hop_of (leaving arc.from others)) at.0 (hop_of arc) ≡ hop_of arc = subst (λ hops. get_or hops at.0 (hop_of arc) ≡ hop_of arc)
+    lists (at.2 (hop_of arc)) in
     let found = arc_of_hop others arc.from at.0 (hop_of arc) within read in
     let is : found.0 ≡ arc = arc_is found.0 arc found.2 (ap (λ (h : Hop). h.to) found.3) (ap (λ (h : Hop). h.seconds) found.3) in
     subst (λ (a : Arc). Contains others a) is found.1
 
 -- a walk of one network is one of the other
-walk_carried : (arcs others : List Arc) → ((arc : Arc) → Contains arcs arc → Contains others arc) → (walk : List Arc) (start goal : ℕ) → IsWalk arcs start walk goal → IsWalk others start walk goal
+walk_carried : (arcs others : List Arc) → ((arc : Arc) → Contains arcs arc → Contains others arc) → (walk : List Arc) (start goal : ℕ)
+    → IsWalk arcs start walk goal → IsWalk others start walk goal
 walk_carried arcs others carry [] start goal walks = walks
 walk_carried arcs others carry (first ∷ rest) start goal walks = (carry first walks.0, walks.1, walk_carried arcs others carry rest first.to goal walks.2)
 
 -- a travel time of one network is one of the other
-pub time_carried : (arcs others : List Arc) (n : ℕ) → All (IsArcAmong n) arcs → All (IsArcAmong n) others → ((node : ℕ) → node < n → map hop_of (leaving node arcs) ≡ map hop_of (leaving node others))
+pub time_carried : (arcs others : List Arc) (n : ℕ) → All (IsArcAmong n) arcs → All (IsArcAmong n) others
+    → ((node : ℕ) → node < n → map hop_of (leaving node arcs) ≡ map hop_of (leaving node others))
     → (start goal seconds : ℕ) → IsTimeBetween arcs start goal seconds → IsTimeBetween others start goal seconds
 time_carried arcs others n among among' same start goal seconds time =
     let there = arc_carried arcs others n among same in

@@ -34,7 +34,8 @@ returns-clause-size g c =
     let held = c.in_ok-cells.cells.ok.0 in
     let made = ap length c.in_ok-cells.ensures ∙ length-replicate {A = ℕ} (n * n) unwritten in
     let size = c.write_table.ensures.size in
-    let same : take c.in_ok-cells.cells.len (new ++ drop (length new) items) ≡ new = take_at new (drop (length new) items) c.in_ok-cells.cells.len (omega arith) in
+    let same : take c.in_ok-cells.cells.len (new ++ drop (length new) items) ≡ new = take_at new (drop (length new) items) c.in_ok-cells.cells.len
+    (omega arith) in
     omega (arith, ap length same, size, made, ap length c.deref_mut.ensures.value)
 
 pub returns-clause-times : goal.returns-clause-times
@@ -47,9 +48,12 @@ returns-clause-times g c =
     let held = c.in_ok-cells.cells.ok.0 in
     let made = ap length c.in_ok-cells.ensures ∙ length-replicate {A = ℕ} (n * n) unwritten in
     let size = c.write_table.ensures.size in
-    let same : take c.in_ok-cells.cells.len (new ++ drop (length new) items) ≡ new = take_at new (drop (length new) items) c.in_ok-cells.cells.len (omega arith) in
-    let all : length c.write_table.new.cells ≡ length c.args.points.now * length c.args.points.now = omega (arith, size, made, ap length c.deref_mut.ensures.value) in
+    let same : take c.in_ok-cells.cells.len (new ++ drop (length new) items) ≡ new = take_at new (drop (length new) items) c.in_ok-cells.cells.len
+    (omega arith) in
+    let all : length c.write_table.new.cells ≡ length c.args.points.now * length c.args.points.now = omega
+    (arith, size, made, ap length c.deref_mut.ensures.value) in
     let read = c.deref.ensures.value ∙ same in
-    let written : All (λ cell. cell ≢ unwritten) new = subst (λ xs. All (λ cell. cell ≢ unwritten) xs) read (c.are_written.ensures c.if-not-are_written.false) in
+    let written : All (λ cell. cell ≢ unwritten) new = subst (λ xs. All (λ cell. cell ≢ unwritten) xs) read
+    (c.are_written.ensures c.if-not-are_written.false) in
     subst (λ xs. (i j : ℕ) → i < n → j < n → IsTimeBetween roads.arcs (slice_index points i) (slice_index points j) (slice_index xs (i * n + j))) (sym same)
     (cell_of_table roads points new (c.write_table.ensures.times roads c.in_ok-part.ensures.part) all (λ k lt. written k 0 lt))
