@@ -1,5 +1,34 @@
 -- A part of a list of arcs.
-use Rattle.std.proofs.Common.{◌≡◌, ◌≢◌, ℕ, zero, suc, ◌+◌, ◌<◌, Bool, true, false, cond, inl, inr, List, [], ◌∷◌, ◌++◌, length, get_or, filter, take, Contains, refl, ap, ◌∙◌, subst, append-nil, arith}
+use Rattle.std.proofs.Common.{
+  ◌≡◌,
+  ◌≢◌,
+  ℕ,
+  zero,
+  suc,
+  ◌+◌,
+  ◌<◌,
+  Bool,
+  true,
+  false,
+  cond,
+  inl,
+  inr,
+  List,
+  [],
+  ◌∷◌,
+  ◌++◌,
+  length,
+  get_or,
+  filter,
+  take,
+  Contains,
+  refl,
+  ap,
+  ◌∙◌,
+  subst,
+  append-nil,
+  arith,
+}
 use Rattle.std.proofs.lemmas.Bool.{cases_Bool}
 use Rattle.std.proofs.lemmas.List.Elements.{All-contains_itself, All-filter, filter_more}
 use Rattle.road_network.specs.declared.arc.Arc.{Arc}
