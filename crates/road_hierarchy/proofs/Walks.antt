@@ -12,23 +12,31 @@ pub seconds-append : (walk other : List Arc) → walk_seconds (walk ++ other) �
 seconds-append walk other = sum_by-append (λ (a : Arc). a.seconds) walk other
 
 -- one walk after another
-pub walk-append : (Kind : Arc → Type 0) (walk other : List Arc) (start via goal : ℕ) → IsWalkOf Kind start walk via → IsWalkOf Kind via other goal → IsWalkOf Kind start (walk ++ other) goal
+pub walk-append : (Kind : Arc → Type 0) (walk other : List Arc) (start via goal : ℕ) → IsWalkOf Kind start walk via → IsWalkOf Kind via other goal
+    → IsWalkOf Kind start (walk ++ other) goal
 walk-append Kind [] other start via goal walks onward = rw walks onward
 walk-append Kind (first ∷ rest) other start via goal walks onward = (walks.0, walks.1, walk-append Kind rest other first.to via goal walks.2 onward)
 
-pub walk-weaker : (Kind Other : Arc → Type 0) → ((arc : Arc) → Kind arc → Other arc) → (walk : List Arc) (start goal : ℕ) → IsWalkOf Kind start walk goal → IsWalkOf Other start walk goal
+pub walk-weaker : (Kind Other : Arc → Type 0) → ((arc : Arc) → Kind arc → Other arc) → (walk : List Arc) (start goal : ℕ) → IsWalkOf Kind start walk goal
+    → IsWalkOf Other start walk goal
 walk-weaker Kind Other weaker [] start goal walks = walks
 walk-weaker Kind Other weaker (first ∷ rest) start goal walks = (weaker first walks.0, walks.1, walk-weaker Kind Other weaker rest first.to goal walks.2)
 
 -- where each arc is as long as a walk of another kind, so is each walk
-pub walk-replaced : (Kind Other : Arc → Type 0) → ((arc : Arc) → Kind arc → (other : List Arc) × IsWalkOf Other arc.from other arc.to × (walk_seconds other ≤ arc.seconds))
-    → (walk : List Arc) (start goal : ℕ) → IsWalkOf Kind start walk goal → (other : List Arc) × IsWalkOf Other start other goal × (walk_seconds other ≤ walk_seconds walk)
+pub walk-replaced : (Kind Other : Arc → Type 0) → ((arc : Arc) → Kind arc → (other : List Arc) × IsWalkOf Other arc.from other arc.to ×
+    (walk_seconds other ≤ arc.seconds))
+    → (walk : List Arc) (start goal : ℕ) → IsWalkOf Kind start walk goal → (other : List Arc) × IsWalkOf Other start other goal ×
+    (walk_seconds other ≤ walk_seconds walk)
 walk-replaced Kind Other replace [] start goal walks = ([], walks, omega arith)
 walk-replaced Kind Other replace (first ∷ rest) start goal walks =
     let here = replace first walks.0 in
     let more = walk-replaced Kind Other replace rest first.to goal walks.2 in
-    let from : IsWalkOf Other start here.0 first.to = subst (λ x. IsWalkOf Other x here.0 first.to) walks.1 here.1 in
-    (here.0 ++ more.0, walk-append Other here.0 more.0 start first.to goal from more.1, omega (arith, here.2, more.2, seconds-append here.0 more.0, seconds-cons first rest))
+    let from : IsWalkOf Other start here.0 first.to = subst (λ x. IsWalkOf Other x here.0 first.to) walks.1 here.1 in (
+      here.0 ++ more.0,
+      walk-append Other here.0 more.0 start first.to goal from more.1,
+      omega
+          (arith, here.2, more.2, seconds-append here.0 more.0, seconds-cons first rest),
+    )
 
 -- walks along a list are walks of the kind "in the list"
 pub to_kind : (arcs walk : List Arc) (start goal : ℕ) → IsWalk arcs start walk goal → IsWalkOf (Contains arcs) start walk goal

@@ -10,3 +10,4 @@ mod table;
 
 pub use build::check::checked::Hierarchy;
 pub use laws::{a_way_up_and_down_is_sound, each_walk_has_a_way_up_and_down};
+pub use table::ways::HierarchyWays;

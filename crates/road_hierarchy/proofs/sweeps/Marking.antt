@@ -20,10 +20,12 @@ pub on_all : (arcs : List Arc) (count : ℕ) (marks marks' : List Bool) → leng
 on_all arcs count marks marks' all has = record {
   same_length = has.same_length;
   kept = has.kept;
-  closed = λ arc (k, within, is) from. ap (λ (a : Arc). is_marked marks' a.to) (sym is) ∙ has.closed k arc (omega (arith, within, all)) within (ap (λ (a : Arc). is_marked marks' a.from) is ∙ from);
+  closed = λ arc (k, within, is) from. ap (λ (a : Arc). is_marked marks' a.to) (sym is) ∙ has.closed k arc (omega (arith, within, all)) within
+      (ap (λ (a : Arc). is_marked marks' a.from) is ∙ from);
 }
 
-module _ (arcs : List Arc) (turn : AreInTurn arcs) (count : ℕ) (marks now : List Bool) (has : HasMarkedOn arcs count marks now) (arc : Arc) (inside : count < length arcs) (read : arc ≡ get_or arcs count arc) where
+module _ (arcs : List Arc) (turn : AreInTurn arcs) (count : ℕ) (marks now : List Bool) (has : HasMarkedOn arcs count marks now) (arc : Arc)
+    (inside : count < length arcs) (read : arc ≡ get_or arcs count arc) where
   on_at : (k : ℕ) (d : Arc) → k ≡ count → arc ≡ get_or arcs k d
   on_at k d e = read ∙ get_or_default arcs count arc d inside ∙ ap (λ x. get_or arcs x d) (sym e)
 
@@ -45,8 +47,10 @@ module _ (arcs : List Arc) (turn : AreInTurn arcs) (count : ℕ) (marks now : Li
       | inl e ↦ ap (λ (a : Arc). is_marked (set now arc.to true) a.to) (sym (on_at k d e)) ∙ get_or-set_same now arc.to true false within
       | inr ne ↦
           let other : k < count = omega (arith, lt, ne) in
-          let apart : arc.to ≢ (get_or arcs k d).from = subst (λ (a : Arc). a.to ≢ (get_or arcs k d).from) (sym (on_at count d refl)) (turn k count d (omega (arith, other)) inside) in
-          more_marked now arc.to within (get_or arcs k d).to (has.closed k d other here (sym (get_or-set_other now arc.to (get_or arcs k d).from true false (λ h. apart (sym h))) ∙ there))
+          let apart : arc.to ≢ (get_or arcs k d).from = subst (λ (a : Arc). a.to ≢ (get_or arcs k d).from) (sym (on_at count d refl))
+          (turn k count d (omega (arith, other)) inside) in
+          more_marked now arc.to within (get_or arcs k d).to (has.closed k d other here
+          (sym (get_or-set_other now arc.to (get_or arcs k d).from true false (λ h. apart (sym h))) ∙ there))
     ];
   }
 
@@ -57,10 +61,12 @@ pub back_all : (arcs : List Arc) (count : ℕ) (marks marks' : List Bool) → co
 back_all arcs count marks marks' all has = record {
   same_length = has.same_length;
   kept = has.kept;
-  closed = λ arc (k, within, is) to. ap (λ (a : Arc). is_marked marks' a.from) (sym is) ∙ has.closed k arc (omega (arith, within, all)) within (ap (λ (a : Arc). is_marked marks' a.to) is ∙ to);
+  closed = λ arc (k, within, is) to. ap (λ (a : Arc). is_marked marks' a.from) (sym is) ∙ has.closed k arc (omega (arith, within, all)) within
+      (ap (λ (a : Arc). is_marked marks' a.to) is ∙ to);
 }
 
-module _ (arcs : List Arc) (turn : AreInTurn arcs) (count : ℕ) (marks now : List Bool) (has : HasMarkedBack arcs (count + 1) marks now) (arc : Arc) (inside : count < length arcs) (read : arc ≡ get_or arcs count arc) where
+module _ (arcs : List Arc) (turn : AreInTurn arcs) (count : ℕ) (marks now : List Bool) (has : HasMarkedBack arcs (count + 1) marks now) (arc : Arc)
+    (inside : count < length arcs) (read : arc ≡ get_or arcs count arc) where
   back_at : (k : ℕ) (d : Arc) → k ≡ count → arc ≡ get_or arcs k d
   back_at k d e = read ∙ get_or_default arcs count arc d inside ∙ ap (λ x. get_or arcs x d) (sym e)
 
@@ -82,7 +88,9 @@ module _ (arcs : List Arc) (turn : AreInTurn arcs) (count : ℕ) (marks now : Li
       | inl e ↦ ap (λ (a : Arc). is_marked (set now arc.from true) a.from) (sym (back_at k d e)) ∙ get_or-set_same now arc.from true false within
       | inr ne ↦
           let other : count < k = omega (arith, lt, ne) in
-          let apart : (get_or arcs k d).to ≢ arc.from = subst (λ (a : Arc). (get_or arcs k d).to ≢ a.from) (sym (back_at count d refl)) (turn count k d (omega (arith, other)) here) in
-          more_marked now arc.from within (get_or arcs k d).from (has.closed k d (omega (arith, other)) here (sym (get_or-set_other now arc.from (get_or arcs k d).to true false apart) ∙ there))
+          let apart : (get_or arcs k d).to ≢ arc.from = subst (λ (a : Arc). (get_or arcs k d).to ≢ a.from) (sym (back_at count d refl))
+          (turn count k d (omega (arith, other)) here) in
+          more_marked now arc.from within (get_or arcs k d).from (has.closed k d (omega (arith, other)) here
+          (sym (get_or-set_other now arc.from (get_or arcs k d).to true false apart) ∙ there))
     ];
   }

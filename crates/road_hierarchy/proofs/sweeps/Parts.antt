@@ -1,16 +1,48 @@
 -- A part of a list of arcs.
-use Rattle.std.proofs.Common.{◌≡◌, ◌≢◌, ℕ, zero, suc, ◌+◌, ◌<◌, ◌≤◌, Bool, true, false, cond, inl, inr, List, [], ◌∷◌, ◌++◌, length, get_or, filter, take, All, Contains, refl, sym, ap, ◌∙◌, subst, append-nil, arith}
+use Rattle.std.proofs.Common.{
+  ◌≡◌,
+  ◌≢◌,
+  ℕ,
+  zero,
+  suc,
+  ◌+◌,
+  ◌<◌,
+  Bool,
+  true,
+  false,
+  cond,
+  inl,
+  inr,
+  List,
+  [],
+  ◌∷◌,
+  ◌++◌,
+  length,
+  get_or,
+  filter,
+  take,
+  Contains,
+  refl,
+  ap,
+  ◌∙◌,
+  subst,
+  append-nil,
+  arith,
+}
 use Rattle.std.proofs.lemmas.Bool.{cases_Bool}
 use Rattle.std.proofs.lemmas.List.Elements.{All-contains_itself, All-filter, filter_more}
 use Rattle.road_network.specs.declared.arc.Arc.{Arc}
 use Rattle.road_hierarchy.specs.work.sweeps.Sweep.{AreInTurn}
 
 -- the next arc is taken, or left out
-pub part_takes : (p : Arc → Bool) (arcs : List Arc) (i : ℕ) (d : Arc) → i < length arcs → p (get_or arcs i d) ≡ true → filter p (take (i + 1) arcs) ≡ filter p (take i arcs) ++ get_or arcs i d ∷ []
+pub part_takes : (p : Arc → Bool) (arcs : List Arc) (i : ℕ) (d : Arc) → i < length arcs → p (get_or arcs i d) ≡ true → filter p
+    (take (i + 1) arcs) ≡ filter p (take i arcs) ++ get_or arcs i d ∷ []
 part_takes p arcs i d lt is = filter_more p arcs i d lt ∙ ap (λ b. filter p (take i arcs) ++ cond b (get_or arcs i d ∷ []) []) is
 
-pub part_skips : (p : Arc → Bool) (arcs : List Arc) (i : ℕ) (d : Arc) → i < length arcs → p (get_or arcs i d) ≡ false → filter p (take (i + 1) arcs) ≡ filter p (take i arcs)
-part_skips p arcs i d lt is = filter_more p arcs i d lt ∙ ap (λ b. filter p (take i arcs) ++ cond b (get_or arcs i d ∷ []) []) is ∙ append-nil (filter p (take i arcs))
+pub part_skips : (p : Arc → Bool) (arcs : List Arc) (i : ℕ) (d : Arc) → i < length arcs → p (get_or arcs i d) ≡ false → filter p
+    (take (i + 1) arcs) ≡ filter p (take i arcs)
+part_skips p arcs i d lt is = filter_more p arcs i d lt ∙ ap (λ b. filter p (take i arcs) ++ cond b (get_or arcs i d ∷ []) []) is ∙ append-nil
+    (filter p (take i arcs))
 
 -- what is kept was there, and passes
 pub part_among : (p : Arc → Bool) (arcs : List Arc) (arc : Arc) → Contains (filter p arcs) arc → Contains arcs arc
@@ -44,7 +76,8 @@ turn_cons arc arcs first rest (suc i) (suc j) d le lt = rest i j d (omega (arith
 pub part_in_turn : (p : Arc → Bool) (arcs : List Arc) → AreInTurn arcs → AreInTurn (filter p arcs)
 part_in_turn p [] turn = λ i j d le lt. absurd (omega (arith, lt))
 part_in_turn p (arc ∷ arcs) turn = elim (cases_Bool (p arc)) [
-  | inl e ↦ rw e (turn_cons arc (filter p arcs) (λ other here. turn_first arc arcs turn other (kept other here)) (part_in_turn p arcs (turn_rest arc arcs turn)))
+  | inl e ↦ rw e (turn_cons arc (filter p arcs) (λ other here. turn_first arc arcs turn other (kept other here))
+      (part_in_turn p arcs (turn_rest arc arcs turn)))
   | inr e ↦ rw e (part_in_turn p arcs (turn_rest arc arcs turn))
 ] where
   kept : (other : Arc) → Contains (arc ∷ filter p arcs) other → Contains (arc ∷ arcs) other

@@ -1,5 +1,30 @@
 -- One more arc of a pass.
-use Rattle.std.proofs.Common.{◌≡◌, ◌≢◌, ℕ, ◌+◌, ◌<◌, ◌≤◌, inl, inr, List, [], ◌∷◌, ◌++◌, length, get_or, set, slice_index, All, Contains, refl, sym, ap, ◌∙◌, subst, arith}
+use Rattle.std.proofs.Common.{
+  ◌≡◌,
+  ◌≢◌,
+  ℕ,
+  ◌+◌,
+  ◌<◌,
+  ◌≤◌,
+  inl,
+  inr,
+  List,
+  [],
+  ◌∷◌,
+  ◌++◌,
+  length,
+  get_or,
+  set,
+  slice_index,
+  All,
+  Contains,
+  refl,
+  sym,
+  ap,
+  ◌∙◌,
+  subst,
+  arith,
+}
 use Rattle.std.proofs.lemmas.Bool.{cases_eq}
 use Rattle.std.proofs.lemmas.List.{get_or-set_other, get_or-set_same, get_or_default, length-set}
 use Rattle.std.proofs.lemmas.List.Sums.{sum_by_push}
@@ -12,17 +37,25 @@ walk-push arcs [] arc start among walks = (among, sym walks, refl)
 walk-push arcs (first ∷ rest) arc start among walks = (walks.0, walks.1, walk-push arcs rest arc first.to among walks.2)
 
 pub swept_none : (arcs : List Arc) (row : List ℕ) → HasSwept arcs 0 row row
-swept_none arcs row = record { same_length = refl; no_later = λ node. omega arith; from = λ node. (node, [], refl, omega arith); settled = λ k d lt. absurd (omega (arith, lt)) }
+swept_none arcs row = record {
+  same_length = refl;
+  no_later = λ node. omega arith;
+  from = λ node.
+      (node, [], refl, omega arith);
+  settled = λ k d lt. absurd (omega (arith, lt));
+}
 
 pub swept_all : (arcs : List Arc) (count : ℕ) (row row' : List ℕ) → length arcs ≤ count → HasSwept arcs count row row' → SweepsTo arcs row row'
 swept_all arcs count row row' all swept = record {
   same_length = swept.same_length;
   no_later = swept.no_later;
   from = swept.from;
-  settled = λ arc (k, within, is). subst (λ (a : Arc). slice_index row' a.to ≤ slice_index row' a.from + a.seconds) is (swept.settled k arc (omega (arith, within, all)) within);
+  settled = λ arc (k, within, is). subst (λ (a : Arc). slice_index row' a.to ≤ slice_index row' a.from + a.seconds) is
+      (swept.settled k arc (omega (arith, within, all)) within);
 }
 
-module _ (arcs : List Arc) (turn : AreInTurn arcs) (count : ℕ) (row now : List ℕ) (swept : HasSwept arcs count row now) (arc : Arc) (inside : count < length arcs) (read : arc ≡ get_or arcs count arc) where
+module _ (arcs : List Arc) (turn : AreInTurn arcs) (count : ℕ) (row now : List ℕ) (swept : HasSwept arcs count row now) (arc : Arc)
+    (inside : count < length arcs) (read : arc ≡ get_or arcs count arc) where
   -- the arc betters nothing
   pub swept_skip : slice_index now arc.to ≤ slice_index now arc.from + arc.seconds → HasSwept arcs (count + 1) row now
   swept_skip le = record {
@@ -38,9 +71,11 @@ module _ (arcs : List Arc) (turn : AreInTurn arcs) (count : ℕ) (row now : List
   }
 
   -- the arc lowers a cell
-  pub swept_take : (through : ℕ) → through ≡ slice_index now arc.from + arc.seconds → through < slice_index now arc.to → arc.to < length now → HasSwept arcs (count + 1) row (set now arc.to through)
+  pub swept_take : (through : ℕ) → through ≡ slice_index now arc.from + arc.seconds → through < slice_index now arc.to → arc.to < length now → HasSwept arcs
+      (count + 1) row (set now arc.to through)
   swept_take through is less within =
-      let other : (node : ℕ) → node ≢ arc.to → slice_index (set now arc.to through) node ≡ slice_index now node = λ node ne. get_or-set_other now arc.to node through 0 ne in
+      let other : (node : ℕ) → node ≢ arc.to → slice_index (set now arc.to through) node ≡ slice_index now node = λ node ne. get_or-set_other now arc.to
+      node through 0 ne in
       let same : slice_index (set now arc.to through) arc.to ≡ through = get_or-set_same now arc.to through 0 within in
       let lower : (node : ℕ) → slice_index (set now arc.to through) node ≤ slice_index now node = λ node. elim (cases_eq node arc.to) [
         | inl e ↦ subst (λ x. slice_index (set now arc.to through) x ≤ slice_index now x) (sym e) (omega (arith, same, less))
@@ -64,17 +99,20 @@ module _ (arcs : List Arc) (turn : AreInTurn arcs) (count : ℕ) (row now : List
         settled = λ k d lt here. elim (cases_eq k count) [
           | inl e ↦
               let at : arc ≡ get_or arcs k d = read ∙ ap (λ x. get_or arcs x arc) (sym e) ∙ get_or_default arcs k arc d here in
-              subst (λ (a : Arc). slice_index (set now arc.to through) a.to ≤ slice_index (set now arc.to through) a.from + a.seconds) at (omega (arith, same, is, other arc.from (λ h. self (sym h))))
+              subst (λ (a : Arc). slice_index (set now arc.to through) a.to ≤ slice_index (set now arc.to through) a.from + a.seconds) at
+              (omega (arith, same, is, other arc.from (λ h. self (sym h))))
           | inr ne ↦
               let earlier : k < count = omega (arith, lt, ne) in
               let at : arc ≡ get_or arcs count d = read ∙ get_or_default arcs count arc d inside in
-              let apart : arc.to ≢ (get_or arcs k d).from = subst (λ (a : Arc). a.to ≢ (get_or arcs k d).from) (sym at) (turn k count d (omega (arith, earlier)) inside) in
+              let apart : arc.to ≢ (get_or arcs k d).from = subst (λ (a : Arc). a.to ≢ (get_or arcs k d).from) (sym at)
+              (turn k count d (omega (arith, earlier)) inside) in
               omega (arith, swept.settled k d earlier here, lower (get_or arcs k d).to, other (get_or arcs k d).from (λ h. apart (sym h)))
         ];
       }
 
 -- a lower cell keeps all low
-pub low_set : (row : List ℕ) (node through : ℕ) → All (λ cell. cell ≤ far) row → through ≤ far → node < length row → All (λ cell. cell ≤ far) (set row node through)
+pub low_set : (row : List ℕ) (node through : ℕ) → All (λ cell. cell ≤ far) row → through ≤ far → node < length row → All (λ cell. cell ≤ far)
+    (set row node through)
 low_set row node through low short within k d h = elim (cases_eq k node) [
   | inl e ↦ rw (e, get_or-set_same row node through d within) short
   | inr ne ↦ rw (get_or-set_other row node k through d ne) (low k d (omega (arith, h, length-set row node through)))

@@ -1,16 +1,41 @@
 -- The part of a hierarchy that a table needs.
-use Rattle.std.proofs.Common.{◌≡◌, ℕ, ◌+◌, ◌<◌, ◌≤◌, inl, inr, Bool, true, List, ◌++◌, ◌-◌, length, get_or, slice_index, slice_range, take, drop, filter, map, All, Contains, refl, sym, ap, ◌∙◌, subst, arith}
+use Rattle.std.proofs.Common.{
+  ◌≡◌,
+  ℕ,
+  ◌+◌,
+  ◌<◌,
+  ◌≤◌,
+  Bool,
+  true,
+  List,
+  ◌++◌,
+  ◌-◌,
+  length,
+  get_or,
+  slice_index,
+  slice_range,
+  drop,
+  filter,
+  map,
+  All,
+  Contains,
+  refl,
+  sym,
+  ap,
+  ◌∙◌,
+  subst,
+  arith,
+}
 use Rattle.std.proofs.lemmas.List.{get_or-drop, get_or-map, get_or-take, get_or_default, length-drop, length-map, length-take}
 use Rattle.std.proofs.lemmas.List.Elements.{All-contains, All-filter, Contains-append_left, Contains-append_right}
 use Rattle.road_network.specs.declared.arc.Arc.{Arc}
 use Rattle.road_network.specs.Roads.{IsNetwork, Roads}
-use Rattle.road_network.specs.Walk.{IsTimeBetween, IsWalk}
+use Rattle.road_network.specs.Walk.{IsTimeBetween}
 use Rattle.travel_times.proofs.lemmas.search.WalkLemmas.{short_walk}
-use Rattle.road_hierarchy.specs.Hierarchy.{Falls, Rises}
-use Rattle.road_hierarchy.specs.work.sweeps.Sweep.{AreInTurn, AreSweeps, HasShortWalks, IsMatchedIn, IsWithin, closed_cell}
+use Rattle.road_hierarchy.specs.work.sweeps.Sweep.{AreInTurn, AreSweeps, HasShortWalks, IsWithin, closed_cell}
 use Rattle.road_hierarchy.specs.work.sweeps.Lanes.{lane_cell}
 use Rattle.road_hierarchy.specs.work.sweeps.Marks.{MarksBack, MarksOn, is_marked}
-use Rattle.road_hierarchy.specs.work.build.Turns.{renamed, turn_of}
+use Rattle.road_hierarchy.specs.work.build.Turns.{turn_of}
 use Rattle.road_hierarchy.specs.work.build.Checked.{IsDown, IsReady, IsUp, given_arcs}
 use Rattle.road_hierarchy.specs.work.table.Part.{IsPart}
 use Rattle.road_hierarchy.proofs.sweeps.Parts.{part_among, part_in_turn, part_keeps}
@@ -31,7 +56,8 @@ pub ready_down_turn : (roads : Roads) (turns : List ℕ) (up down : List Arc) �
 ready_down_turn roads turns up down ready = downs_in_turn down ready.downs.sorted (λ j d lt. (ready.downs.each j d lt).1)
 
 -- beside each walk between two turns there is a short one
-short_given : (roads : Roads) (turns : List ℕ) (x y : ℕ) → IsNetwork roads → ((a b : ℕ) → turn_of turns a ≡ turn_of turns b → a ≡ b) → x < length roads.nodes → HasShortWalks (given_arcs roads turns) (turn_of turns x) (turn_of turns y)
+short_given : (roads : Roads) (turns : List ℕ) (x y : ℕ) → IsNetwork roads → ((a b : ℕ) → turn_of turns a ≡ turn_of turns b → a ≡ b)
+    → x < length roads.nodes → HasShortWalks (given_arcs roads turns) (turn_of turns x) (turn_of turns y)
 short_given roads turns x y network once inside walk walks =
     let behind = walk_behind (turn_of turns) roads.arcs once walk x y walks in
     let short = short_walk roads.arcs behind.0 (length roads.nodes) x y network.arcs network.few_nodes inside behind.1 in
@@ -39,8 +65,10 @@ short_given roads turns x y network once inside walk walks =
     (there.0, there.1, omega (arith, there.2))
 
 -- marks that were closed choose the part
-pub part_of : (roads : Roads) (turns : List ℕ) (up down : List Arc) (points turned : List ℕ) (begun known begun' wanted : List Bool) → IsNetwork roads → IsReady roads turns up down → All (λ point. point < length roads.nodes) points
-    → turned ≡ map (turn_of turns) points → All (λ turn. is_marked begun turn ≡ true) turned → MarksOn up begun known → All (λ turn. is_marked begun' turn ≡ true) turned → MarksBack down begun' wanted
+pub part_of : (roads : Roads) (turns : List ℕ) (up down : List Arc) (points turned : List ℕ) (begun known begun' wanted : List Bool) → IsNetwork roads
+    → IsReady roads turns up down → All (λ point. point < length roads.nodes) points
+    → turned ≡ map (turn_of turns) points → All (λ turn. is_marked begun turn ≡ true) turned → MarksOn up begun known → All
+    (λ turn. is_marked begun' turn ≡ true) turned → MarksBack down begun' wanted
     → IsPart roads points (length turns) turned (filter (λ arc. is_marked known arc.from) up) (filter (λ arc. is_marked wanted arc.to) down)
 part_of roads turns up down points turned begun known begun' wanted network ready inside same starts on starts' back =
     let rises : (arc : Arc) → Contains up arc → arc.from < arc.to = λ arc here. (All-contains (IsUp (length turns)) up arc ready.ups.each here).1 in
@@ -63,7 +91,8 @@ part_of roads turns up down points turned begun known begun' wanted network read
             let here = down_of (given_arcs roads turns) up down rises falls arc fall.0 fall.1 in
             ((arc, part_keeps (λ a. is_marked wanted a.to) down arc here want, refl, refl, omega arith), back.closed arc here want);
       };
-      short = λ i j hi hj. subst (λ x. HasShortWalks (given_arcs roads turns) x (slice_index turned j)) (sym (turned_is i hi)) (subst (λ y. HasShortWalks (given_arcs roads turns) (turn_of turns (slice_index points i)) y) (sym (turned_is j hj))
+      short = λ i j hi hj. subst (λ x. HasShortWalks (given_arcs roads turns) x (slice_index turned j)) (sym (turned_is i hi))
+          (subst (λ y. HasShortWalks (given_arcs roads turns) (turn_of turns (slice_index points i)) y) (sym (turned_is j hj))
           (short_given roads turns (slice_index points i) (slice_index points j) network ready.once (inside i 0 (omega (arith, hi, long)))));
       below = λ k d lt. (
           let read : get_or turned k d ≡ slice_index turned k = get_or_default turned k d 0 lt in
@@ -78,44 +107,60 @@ part_of roads turns up down points turned begun known begun' wanted network read
   where
     long : length turned ≡ length points
     long = ap length same ∙ length-map points (turn_of turns)
+
     turned_is : (i : ℕ) → i < length turned → slice_index turned i ≡ turn_of turns (slice_index points i)
     turned_is i lt = ap (λ xs. slice_index xs i) same ∙ get_or-map (turn_of turns) points i 0 0 (omega (arith, lt, long))
 
 -- a cell by turns is one by points
-pub cell_of_part : (roads : Roads) (points turned : List ℕ) (n : ℕ) (up down : List Arc) (part : IsPart roads points n turned up down) (i j seconds : ℕ) → i < length points → j < length points
-    → IsTimeBetween (given_arcs roads part.turns) (slice_index turned i) (slice_index turned j) seconds → IsTimeBetween roads.arcs (slice_index points i) (slice_index points j) seconds
+pub cell_of_part : (roads : Roads) (points turned : List ℕ) (n : ℕ) (up down : List Arc) (part : IsPart roads points n turned up down) (i j seconds : ℕ)
+    → i < length points → j < length points
+    → IsTimeBetween (given_arcs roads part.turns) (slice_index turned i) (slice_index turned j) seconds → IsTimeBetween roads.arcs (slice_index points i)
+    (slice_index points j) seconds
 cell_of_part roads points turned n up down part i j seconds hi hj time =
-    let at : (k : ℕ) → k < length points → slice_index turned k ≡ turn_of part.turns (slice_index points k) = λ k lt. ap (λ xs. slice_index xs k) part.same ∙ get_or-map (turn_of part.turns) points k 0 0 lt in
+    let at : (k : ℕ) → k < length points → slice_index turned k ≡ turn_of part.turns (slice_index points k) = λ k lt. ap (λ xs. slice_index xs k) part.same
+    ∙ get_or-map (turn_of part.turns) points k 0 0 lt in
     time_renamed (turn_of part.turns) roads.arcs (slice_index points i) (slice_index points j) seconds part.once
-    (subst (λ x. IsTimeBetween (given_arcs roads part.turns) x (turn_of part.turns (slice_index points j)) seconds) (at i hi) (subst (λ y. IsTimeBetween (given_arcs roads part.turns) (slice_index turned i) y seconds) (at j hj) time))
+    (subst (λ x. IsTimeBetween (given_arcs roads part.turns) x (turn_of part.turns (slice_index points j)) seconds) (at i hi)
+    (subst (λ y. IsTimeBetween (given_arcs roads part.turns) (slice_index turned i) y seconds) (at j hj) time))
 
 -- the turns of points are among the nodes
-pub turned_below : (roads : Roads) (turns : List ℕ) (up down : List Arc) (points turned : List ℕ) → IsReady roads turns up down → All (λ point. point < length roads.nodes) points → turned ≡ map (turn_of turns) points → All (λ turn. turn < length turns) turned
+pub turned_below : (roads : Roads) (turns : List ℕ) (up down : List Arc) (points turned : List ℕ) → IsReady roads turns up down → All
+    (λ point. point < length roads.nodes) points → turned ≡ map (turn_of turns) points → All (λ turn. turn < length turns) turned
 turned_below roads turns up down points turned ready inside same k d lt =
     let long : length turned ≡ length points = ap length same ∙ length-map points (turn_of turns) in
-    let read : get_or turned k d ≡ turn_of turns (slice_index points k) = ap (λ xs. get_or xs k d) same ∙ get_or-map (turn_of turns) points k 0 d (omega (arith, lt, long)) in
+    let read : get_or turned k d ≡ turn_of turns (slice_index points k) = ap (λ xs. get_or xs k d) same ∙ get_or-map (turn_of turns) points k 0 d
+    (omega (arith, lt, long)) in
     omega (arith, read, ready.below (slice_index points k) (omega (arith, inside k 0 (omega (arith, lt, long)), ready.count)))
 
 -- the part, by what calls made of it
-pub part_made : (roads : Roads) (turns : List ℕ) (up down : List Arc) (points turned : List ℕ) (begun known begun' wanted : List Bool) (n : ℕ) (up' down' : List Arc) → IsNetwork roads → IsReady roads turns up down → All (λ point. point < length roads.nodes) points
-    → turned ≡ map (turn_of turns) points → All (λ turn. is_marked begun turn ≡ true) turned → MarksOn up begun known → All (λ turn. is_marked begun' turn ≡ true) turned → MarksBack down begun' wanted
-    → n ≡ length turns → up' ≡ filter (λ arc. is_marked known arc.from) up → down' ≡ filter (λ arc. is_marked wanted arc.to) down → IsPart roads points n turned up' down'
+pub part_made : (roads : Roads) (turns : List ℕ) (up down : List Arc) (points turned : List ℕ) (begun known begun' wanted : List Bool) (n : ℕ)
+    (up' down' : List Arc) → IsNetwork roads → IsReady roads turns up down → All (λ point. point < length roads.nodes) points
+    → turned ≡ map (turn_of turns) points → All (λ turn. is_marked begun turn ≡ true) turned → MarksOn up begun known → All
+    (λ turn. is_marked begun' turn ≡ true) turned → MarksBack down begun' wanted
+    → n ≡ length turns → up' ≡ filter (λ arc. is_marked known arc.from) up → down' ≡ filter (λ arc. is_marked wanted arc.to) down
+    → IsPart roads points n turned up' down'
 part_made roads turns up down points turned begun known begun' wanted n up' down' network ready inside same starts on starts' back n_is up_is down_is =
-    subst (λ m. IsPart roads points m turned up' down') (sym n_is) (subst (λ u. IsPart roads points (length turns) turned u down') (sym up_is) (subst (λ d. IsPart roads points (length turns) turned (filter (λ arc. is_marked known arc.from) up) d) (sym down_is)
+    subst (λ m. IsPart roads points m turned up' down') (sym n_is) (subst (λ u. IsPart roads points (length turns) turned u down') (sym up_is)
+    (subst (λ d. IsPart roads points (length turns) turned (filter (λ arc. is_marked known arc.from) up) d) (sym down_is)
     (part_of roads turns up down points turned begun known begun' wanted network ready inside same starts on starts' back)))
 
 -- what sweeps from some of the points give
 abbrev pub GivesTimes : List Arc → List Arc → List ℕ → ℕ → ℕ → ℕ → List (List ℕ) → Type 0
-GivesTimes up down turned n first end rows = (network arcs : List Arc) (rank : ℕ → ℕ) (known wanted : ℕ → Bool) (k goal : ℕ) → AreSweeps network arcs rank known wanted up down → HasShortWalks network (slice_index (slice_range turned first end) k) goal
-    → k < length (slice_range turned first end) → known (slice_index (slice_range turned first end) k) ≡ true → goal < n → wanted goal ≡ true → IsTimeBetween network (slice_index (slice_range turned first end) k) goal (closed_cell (lane_cell rows goal k))
+GivesTimes up down turned n first end rows = (network arcs : List Arc) (rank : ℕ → ℕ) (known wanted : ℕ → Bool) (k goal : ℕ)
+    → AreSweeps network arcs rank known wanted up down → HasShortWalks network (slice_index (slice_range turned first end) k) goal
+    → k < length (slice_range turned first end) → known (slice_index (slice_range turned first end) k) ≡ true → goal < n → wanted goal ≡ true
+    → IsTimeBetween network (slice_index (slice_range turned first end) k) goal (closed_cell (lane_cell rows goal k))
 
 -- a cell that they give
-pub block_cell : (roads : Roads) (points turned : List ℕ) (n : ℕ) (up down : List Arc) (part : IsPart roads points n turned up down) (first lanes lane j : ℕ) (rows : List (List ℕ)) → length turned ≡ length points → first + lanes ≤ length points → lane < lanes → j < length points
-    → GivesTimes up down turned n first (first + lanes) rows → IsTimeBetween roads.arcs (slice_index points (first + lane)) (slice_index points j) (closed_cell (lane_cell rows (slice_index turned j) lane))
+pub block_cell : (roads : Roads) (points turned : List ℕ) (n : ℕ) (up down : List Arc) (part : IsPart roads points n turned up down)
+    (first lanes lane j : ℕ) (rows : List (List ℕ)) → length turned ≡ length points → first + lanes ≤ length points → lane < lanes → j < length points
+    → GivesTimes up down turned n first (first + lanes) rows → IsTimeBetween roads.arcs (slice_index points (first + lane)) (slice_index points j)
+    (closed_cell (lane_cell rows (slice_index turned j) lane))
 block_cell roads points turned n up down part first lanes lane j rows long within lt hj times =
     let at : slice_index (slice_range turned first (first + lanes)) lane ≡ slice_index turned (first + lane) =
     get_or-take (first + lanes - first) (drop first turned) lane 0 (omega (arith, lt)) ∙ get_or-drop first turned lane 0 in
-    let many : lane < length (slice_range turned first (first + lanes)) = omega (arith, length-take (first + lanes - first) (drop first turned), length-drop first turned, within, long, lt) in
+    let many : lane < length (slice_range turned first (first + lanes)) = omega
+    (arith, length-take (first + lanes - first) (drop first turned), length-drop first turned, within, long, lt) in
     let source_in : first + lane < length turned = omega (arith, within, long, lt) in
     let goal_in : j < length turned = omega (arith, hj, long) in
     let given = given_arcs roads part.turns in

@@ -1,4 +1,4 @@
-ghost use Rattle.std.specs.Prelude.{◌≡◌, ◌+◌, ◌*◌, ◌<◌, ◌≤◌, ℕ, All, IfOk, length, slice_index};
+ghost use Rattle.std.specs.Prelude.{◌≡◌, ◌≢◌, ◌+◌, ◌*◌, ◌<◌, ◌≤◌, ℕ, All, IfOk, IsTrue, length, replicate, slice_index};
 ghost use Rattle.road_network.specs.Roads.{Roads};
 ghost use Rattle.road_network.specs.Walk.{IsTimeBetween};
 ghost use Rattle.road_hierarchy.specs.work.sweeps.Sweep.{closed_cell};
@@ -35,16 +35,40 @@ pub(crate) fn cells_between(
 {
     let count = points.len();
     let part = Part::of(alloc, hierarchy, points)?;
-    let mut cells = vec![in alloc; UNWRITTEN; count * count]?;
+    let mut cells = no_cells(alloc, count * count)?;
     if count == 0 {
         return Ok(cells);
     }
     let rows = rows_of_a_piece(count, workers as usize, count < FEW);
-    write_table(rt, alloc, &part, points, rows.div_ceil(LANES) * LANES, &mut cells);
-    if cells.contains(&UNWRITTEN) {
+    write_table(
+        rt,
+        alloc,
+        &part,
+        points,
+        rows.div_ceil(LANES) * LANES,
+        &mut cells,
+    );
+    if !are_written(&cells) {
         return Err(OutOfMemory);
     }
     Ok(cells)
+}
+
+/// So many cells that nobody wrote.
+fn no_cells(alloc: Global, count: usize) -> Result<Vec<u32>, OutOfMemory>
+    ensures { IfOk result (λ cells. cells.items ≡ replicate count unwritten) }
+{
+    Ok(vec![in alloc; UNWRITTEN; count]?)
+}
+
+/// Whether each cell was written.
+fn are_written(cells: &[u32]) -> bool
+    ensures { IsTrue result → All (λ cell. cell ≢ unwritten) cells.now }
+{
+    if cells.contains(&UNWRITTEN) {
+        return false;
+    }
+    true
 }
 
 /// Writes the cells of a table, so many rows in one piece of work. A piece for which there is no memory is left unwritten.
@@ -85,7 +109,7 @@ fn write_rows(alloc: Global, part: &Part, points: &[usize], start: usize, cells:
     ensures size { length cells.new ≡ length cells.old }
     ensures times { (roads : Roads) → IsPart roads points.now part.now.nodes part.now.turned.items part.now.up.items part.now.down.items → AreCellsFrom roads points.now start cells.new }
 {
-    let Ok(mut blocks) = Vec::from_elem(alloc, [FAR; 16], part.nodes) else {
+    let Ok(mut blocks) = blocks_of(alloc, part.nodes) else {
         return;
     };
     let from = start / points.len();
@@ -95,6 +119,17 @@ fn write_rows(alloc: Global, part: &Part, points: &[usize], start: usize, cells:
         let lanes = (count - row).min(LANES);
         write_block(part, points, from, row, lanes, &mut blocks, cells);
     }
+}
+
+/// A block for each of so many nodes.
+fn blocks_of(alloc: Global, nodes: usize) -> Result<Vec<Block>, OutOfMemory>
+    ensures { IfOk result (λ blocks. length blocks.items ≡ nodes) }
+{
+    let mut blocks = Vec::with_capacity(alloc, nodes)?;
+    for _ in 0..nodes {
+        blocks.push([FAR; 16])?;
+    }
+    Ok(blocks)
 }
 
 /// Writes so many rows of a piece that begins with row `from` of a table: at most one in each lane.
@@ -125,7 +160,13 @@ fn write_block(
         blocks,
     );
     for lane in 0..lanes {
-        write_row(&part.turned, blocks, lane, (row + lane) * points.len(), cells);
+        write_row(
+            &part.turned,
+            blocks,
+            lane,
+            (row + lane) * points.len(),
+            cells,
+        );
     }
 }
 

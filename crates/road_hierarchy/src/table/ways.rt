@@ -1,5 +1,7 @@
-ghost use Rattle.std.specs.Prelude.{◌≡◌, ◌≤◌, All, Contains, IfOk, IfSome, IsTrue, length, map};
-ghost use Rattle.road_network.specs.Roads.{IsSame, Roads};
+ghost use Rattle.std.specs.Prelude.{◌≡◌, ◌≤◌, ℕ, All, Contains, IfOk, IfSome, IsTrue, length, map};
+ghost use Rattle.road_network.specs.Roads.{Roads, index_in};
+ghost use Rattle.road_network.specs.Walk.{IsTimeBetween};
+ghost use Rattle.travel_times.specs.table.Table.{AreTravelTimes};
 
 use crate::build::check::checked::Hierarchy;
 use crate::table::cells::cells_between;
@@ -76,11 +78,8 @@ impl Ways for HierarchyWays<'_> {
         nodes: &[NodeId],
     ) -> Result<Times, OutOfMemory> {
         if let Some(hierarchy) = self.ready(alloc, nodes.len() as u64) {
-            // What a lock gives is known by its type alone: so the network is compared.
-            if are_same(hierarchy.network, self.network) {
-                let points = indexes_of(alloc, self.network, nodes)?;
-                let cells = cells_between(rt, alloc, hierarchy, &points, self.workers)?;
-                return Ok(table_of_times(self.network, &points, cells));
+            if is_of(hierarchy, self.network) {
+                return table_by(rt, alloc, hierarchy, self.network, nodes, self.workers);
             }
         }
         let rows = NetworkWays {
@@ -89,4 +88,33 @@ impl Ways for HierarchyWays<'_> {
         };
         rows.table(rt, alloc, nodes)
     }
+}
+
+/// Whether the travel times of a hierarchy are those of a network. What a lock gives is known by its type alone: so the
+/// two networks are compared.
+fn is_of(hierarchy: &Hierarchy<'_>, network: &Network) -> bool
+    ensures count { IsTrue result → length hierarchy.now.nodes ≡ length network.now.nodes }
+    ensures times { IsTrue result → (start goal seconds : ℕ) → IsTimeBetween hierarchy.now.arcs start goal seconds → IsTimeBetween network.now.arcs start goal seconds }
+{
+    are_same(hierarchy.network, network)
+}
+
+/// The table of times between nodes of a network, by a hierarchy whose travel times are the network's.
+fn table_by(
+    rt: &(impl Threads + Sync),
+    alloc: Global,
+    hierarchy: &Hierarchy<'_>,
+    network: &Network,
+    nodes: &[NodeId],
+    workers: u8,
+) -> Result<Times, OutOfMemory>
+    requires known { All (λ node. Contains network.now.nodes node) nodes.now }
+    requires few { length nodes.now ≤ 12500 }
+    requires count { length hierarchy.now.nodes ≡ length network.now.nodes }
+    requires times { (start goal seconds : ℕ) → IsTimeBetween hierarchy.now.arcs start goal seconds → IsTimeBetween network.now.arcs start goal seconds }
+    ensures { IfOk result (AreTravelTimes network.now.arcs (map (index_in network.now.nodes) nodes.now)) }
+{
+    let points = indexes_of(alloc, network, nodes)?;
+    let cells = cells_between(rt, alloc, hierarchy, &points, workers)?;
+    Ok(table_of_times(network, &points, cells))
 }

@@ -8,7 +8,13 @@ use Rattle.road_hierarchy.proofs.sweeps.Laning.{blocks_set, lengths_set, swept_l
 use Rattle.road_hierarchy.proofs.sweeps.lanes.sweep.Goals as goal
 
 pub loop-arc-init : goal.loop-arc-init
-loop-arc-init c = record { same_length = refl; blocks = c.told-rows; swept = λ k few. swept_none c.args.arcs.now (lane k c.args.rows.now); low = c.requires.low }
+loop-arc-init c = record {
+  same_length = refl;
+  blocks = c.told-rows;
+  swept = λ k few. swept_none c.args.arcs.now
+      (lane k c.args.rows.now);
+  low = c.requires.low;
+}
 
 pub loop-arc-preserved : goal.loop-arc-preserved
 loop-arc-preserved c =
@@ -27,9 +33,11 @@ loop-arc-preserved c =
     record {
       same_length = length-set now (get_or arcs i none).to c.lower.new.to ∙ inv.same_length;
       blocks = lengths_set now (get_or arcs i none).to c.lower.new.to inv.blocks (c.lower.ensures.lowers.same_length ∙ wide) to_in;
-      swept = λ k few. swept_lane arcs c.requires.turn i c.args.rows.now now c.lower.new.to (get_or arcs i none) k (inv.swept k few) inside read from_in to_in few (omega (arith, few, wide)) c.lower.ensures.lowers;
+      swept = λ k few. swept_lane arcs c.requires.turn i c.args.rows.now now c.lower.new.to (get_or arcs i none) k
+          (inv.swept k few) inside read from_in to_in few (omega (arith, few, wide)) c.lower.ensures.lowers;
       low = blocks_set (λ b. All (λ cell. cell ≤ far) b) now (get_or arcs i none).to c.lower.new.to inv.low c.lower.ensures.low to_in;
     }
 
 pub returns-clause-sweeps : goal.returns-clause-sweeps
-returns-clause-sweeps c = λ k few. swept_all c.args.arcs.now c.loop-arc.arc-index (lane k c.args.rows.now) (lane k c.loop-arc.rows) (omega arith) (c.loop-arc.invariant.swept k few)
+returns-clause-sweeps c = λ k few. swept_all c.args.arcs.now c.loop-arc.arc-index (lane k c.args.rows.now) (lane k c.loop-arc.rows) (omega arith)
+    (c.loop-arc.invariant.swept k few)

@@ -1,4 +1,4 @@
-use Rattle.std.proofs.Common.{◌≡◌, ◌+◌, ◌-◌, ◌<◌, length, get_or, sym, subst, arith}
+use Rattle.std.proofs.Common.{◌≡◌, ◌+◌, ◌-◌, ◌<◌, length, get_or, subst, arith}
 use Rattle.std.proofs.lemmas.List.{get_or_default}
 use Rattle.road_network.specs.declared.arc.Arc.{Arc}
 use Rattle.road_hierarchy.specs.work.sweeps.Marks.{HasMarkedBack}
@@ -7,7 +7,8 @@ use Rattle.road_hierarchy.proofs.sweeps.marks.mark_back.Goals.{then-marks-arc, e
 use Rattle.road_hierarchy.proofs.sweeps.marks.mark_back.Goals as goal
 
 pub loop-done-init : goal.loop-done-init
-loop-done-init c = subst (λ k. HasMarkedBack c.args.arcs.now k c.args.marks.now c.args.marks.now) (let e : length c.args.arcs.now ≡ length c.args.arcs.now - 0 = omega arith in e) (back_none c.args.arcs.now c.args.marks.now)
+loop-done-init c = subst (λ k. HasMarkedBack c.args.arcs.now k c.args.marks.now c.args.marks.now)
+    (let e : length c.args.arcs.now ≡ length c.args.arcs.now - 0 = omega arith in e) (back_none c.args.arcs.now c.args.marks.now)
 
 pub loop-done-preserved : goal.loop-done-preserved
 loop-done-preserved c =
@@ -20,12 +21,17 @@ loop-done-preserved c =
     let arc : Arc = get_or arcs (length c.args.arcs.now - 1 - c.loop-done.done) none in
     let next : length c.args.arcs.now - c.loop-done.done ≡ length c.args.arcs.now - (c.loop-done.done + 1) + 1 = omega (arith, c.loop-done-test.true) in
     let at : length c.args.arcs.now - 1 - c.loop-done.done ≡ length c.args.arcs.now - (c.loop-done.done + 1) = omega arith in
-    let inv : HasMarkedBack arcs (length c.args.arcs.now - (c.loop-done.done + 1) + 1) before now = subst (λ k. HasMarkedBack c.args.arcs.now k c.args.marks.now c.loop-done.marks) next c.loop-done.invariant in
-    let read : get_or arcs (length c.args.arcs.now - 1 - c.loop-done.done) none ≡ get_or arcs (length c.args.arcs.now - (c.loop-done.done + 1)) (get_or arcs (length c.args.arcs.now - 1 - c.loop-done.done) none) =
-    subst (λ k. get_or c.args.arcs.now (length c.args.arcs.now - 1 - c.loop-done.done) none ≡ get_or c.args.arcs.now k (get_or c.args.arcs.now (length c.args.arcs.now - 1 - c.loop-done.done) none)) at
-    (get_or_default arcs (length c.args.arcs.now - 1 - c.loop-done.done) none (get_or arcs (length c.args.arcs.now - 1 - c.loop-done.done) none) (omega (arith, at, inside))) in
+    let inv : HasMarkedBack arcs (length c.args.arcs.now - (c.loop-done.done + 1) + 1) before now =
+    subst (λ k. HasMarkedBack c.args.arcs.now k c.args.marks.now c.loop-done.marks) next c.loop-done.invariant in
+    let read : get_or arcs (length c.args.arcs.now - 1 - c.loop-done.done) none ≡ get_or arcs (length c.args.arcs.now - (c.loop-done.done + 1))
+    (get_or arcs (length c.args.arcs.now - 1 - c.loop-done.done) none) =
+    subst (λ k. get_or c.args.arcs.now (length c.args.arcs.now - 1 - c.loop-done.done) none ≡ get_or c.args.arcs.now k
+    (get_or c.args.arcs.now (length c.args.arcs.now - 1 - c.loop-done.done) none)) at
+    (get_or_default arcs (length c.args.arcs.now - 1 - c.loop-done.done) none (get_or arcs (length c.args.arcs.now - 1 - c.loop-done.done) none)
+    (omega (arith, at, inside))) in
     let among = c.requires.within (length c.args.arcs.now - 1 - c.loop-done.done) none (omega (arith, at, inside)) in
-    let from_in : (get_or c.args.arcs.now (length c.args.arcs.now - 1 - c.loop-done.done) none).from < length c.loop-done.marks = omega (arith, among.0, inv.same_length) in
+    let from_in : (get_or c.args.arcs.now (length c.args.arcs.now - 1 - c.loop-done.done) none).from < length c.loop-done.marks = omega
+    (arith, among.0, inv.same_length) in
     elim c.if-marks-arc.branch [
       | then-marks-arc w ↦ rw w.marks-is (back_take arcs c.requires.turn place before now inv arc inside read from_in)
       | else-marks-arc w ↦ rw w.marks-is (back_skip arcs c.requires.turn place before now inv arc inside read w.if-marks-arc.false)

@@ -20,5 +20,6 @@ loop-arc-preserved c =
     let to_in : (get_or c.args.arcs.now c.loop-arc.arc-index none).to < length c.loop-arc.marks = omega (arith, among.1, inv.same_length) in
     elim c.if-marks-arc.branch [
       | then-marks-arc w ↦ rw w.marks-is (on_take arcs c.requires.turn i c.args.marks.now c.loop-arc.marks inv (get_or arcs i none) inside read to_in)
-      | else-marks-arc w ↦ rw w.marks-is (on_skip arcs c.requires.turn i c.args.marks.now c.loop-arc.marks inv (get_or arcs i none) inside read w.if-marks-arc.false)
+      | else-marks-arc w ↦ rw w.marks-is (on_skip arcs c.requires.turn i c.args.marks.now c.loop-arc.marks inv
+          (get_or arcs i none) inside read w.if-marks-arc.false)
     ]
