@@ -3,17 +3,19 @@ ghost use Rattle.std.specs.Prelude.{◌≡◌, IfOk};
 
 use pool_base::{NodeId, OutOfMemory, Times};
 use rider_limits::{Settings, TimesWay};
+use road_hierarchy::HierarchyWays;
 use road_network::Network;
 use shared_work::Gate;
 use std::alloc::Global;
 use std::marker::Model;
 use std::thread::Threads;
-use travel_times::{LabelWays, Labels, NetworkWays, Ways};
+use travel_times::{LabelWays, Labels, Ways};
 
-/// The travel times of a network, by labels where there are any, and else by searches. Contracts see it as the network.
+/// The travel times of a network, by labels where there are any, and else by searches until a hierarchy pays. Contracts see it
+/// as the network.
 #[derive(Drop)]
 pub(crate) struct NamedWays<'a> {
-    rows: NetworkWays<'a>,
+    rows: HierarchyWays<'a>,
     labels: Option<LabelWays<'a>>,
 }
 
@@ -23,9 +25,9 @@ impl<'a> Model for NamedWays<'a> {
 
     ghost Value = { Roads };
 
-    ghost view = { λ ways. ways.rows.network.now };
+    ghost view = { λ ways. ways.rows };
 
-    ghost invariant = { λ ways. IfSome ways.labels (λ labels. labels ≡ ways.rows.network.now) };
+    ghost invariant = { λ ways. IfSome ways.labels (λ labels. labels ≡ ways.rows) };
 }
 
 impl Ways for NamedWays<'_> {
@@ -53,10 +55,7 @@ pub(crate) fn ways_by<'a, G: Gate>(
 ) -> Result<NamedWays<'a>, OutOfMemory>
     ensures { IfOk result (λ ways. ways ≡ network.entry.now) }
 {
-    let rows = NetworkWays {
-        network,
-        workers: settings.workers,
-    };
+    let rows = HierarchyWays::of(network, settings.workers);
     let labels = match settings.times {
         TimesWay::Rows => None,
         TimesWay::Labels => {

@@ -87,8 +87,7 @@ fn live_from<R: Threads + Wait + Copy + Send + Sync + 'static>(
 
 /// The sink of a report, which opens the file of the notices as it is written, shows a terminal what was written, and gives
 /// up a read where a write fails.
-type Printer<'a, R> =
-    GivingSink<WatchedSink<OpeningSink<'a, StdSink<Stdout>>, Stderr>, R>;
+type Printer<'a, R> = GivingSink<WatchedSink<OpeningSink<'a, StdSink<Stdout>>, Stderr>, R>;
 
 /// What a call opens before it begins.
 #[derive(Drop)]

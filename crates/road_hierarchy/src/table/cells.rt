@@ -117,7 +117,7 @@ fn write_rows(alloc: Global, part: &Part, points: &[usize], start: usize, cells:
     for block in 0..count.div_ceil(LANES) {
         let row = block * LANES;
         let lanes = (count - row).min(LANES);
-        write_block(part, points, from, row, lanes, &mut blocks, cells);
+        write_block(part, points, from, (row, lanes), &mut blocks, cells);
     }
 }
 
@@ -132,26 +132,26 @@ fn blocks_of(alloc: Global, nodes: usize) -> Result<Vec<Block>, OutOfMemory>
     Ok(blocks)
 }
 
-/// Writes so many rows of a piece that begins with row `from` of a table: at most one in each lane.
+/// Writes rows of a piece that begins with row `from` of a table, from one of its rows on so many: at most one in each lane.
 fn write_block(
     part: &Part,
     points: &[usize],
     from: usize,
-    row: usize,
-    lanes: usize,
+    rows: (usize, usize),
     blocks: &mut [Block],
     cells: &mut [u32],
 )
     requires few { length points.now ≤ 12500 }
     requires turned { length part.now.turned.items ≡ length points.now }
-    requires lanes { lanes ≤ 16 }
-    requires within { from + row + lanes ≤ length points.now }
-    requires room { (row + lanes) * length points.now ≤ length cells.old }
+    requires lanes { rows.1 ≤ 16 }
+    requires within { from + rows.0 + rows.1 ≤ length points.now }
+    requires room { (rows.0 + rows.1) * length points.now ≤ length cells.old }
     requires blocks { length blocks.old ≡ part.now.nodes }
     ensures blocks { length blocks.new ≡ length blocks.old }
     ensures size { length cells.new ≡ length cells.old }
-    ensures times { (roads : Roads) → IsPart roads points.now part.now.nodes part.now.turned.items part.now.up.items part.now.down.items → IsWriting roads points.now from row cells.old → IsWriting roads points.now from (row + lanes) cells.new }
+    ensures times { (roads : Roads) → IsPart roads points.now part.now.nodes part.now.turned.items part.now.up.items part.now.down.items → IsWriting roads points.now from rows.0 cells.old → IsWriting roads points.now from (rows.0 + rows.1) cells.new }
 {
+    let (row, lanes) = rows;
     let first = from + row;
     times_from(
         &part.up,
