@@ -84,7 +84,7 @@ const SETTINGS: &str = "  \
 ";
 
 const TIMES: &str = "  \
-  times=WAY      travel times by `rows`, searches in each batch, or by `labels`, made once (rows)
+  times=WAY      travel times by `rows`, made for each batch, or by `labels`, made once (rows)
 ";
 
 const JUDGE: &str = "  \
