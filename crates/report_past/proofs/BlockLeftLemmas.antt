@@ -1,54 +1,11 @@
 -- The line of a close, and the block behind it.
-use Rattle.std.proofs.Common.{
-  ◌≡◌,
-  ℕ,
-  ◌-◌,
-  ◌<◌,
-  ◌==◌,
-  ◌&&◌,
-  eqb,
-  Bool,
-  true,
-  false,
-  if◌then◌else◌,
-  not,
-  List,
-  [],
-  ◌∷◌,
-  ◌++◌,
-  map,
-  length,
-  drop,
-  codes,
-  decimal,
-  refl,
-  sym,
-  ap,
-  subst,
-  ◌∙◌,
-  append_assoc,
-  length-append,
-  inl,
-  inr,
-  arith,
-  rules,
-}
-use Rattle.std.proofs.lemmas.Bool.{and_parts}
+use Rattle.std.proofs.Common.{◌≡◌, ℕ, ◌-◌, ◌<◌, eqb, Bool, true, false, not, List, [], ◌∷◌, ◌++◌, map}
+use Rattle.std.proofs.Common.{length, drop, codes, decimal, refl, sym, ap, subst, ◌∙◌, append_assoc, length-append, inl, inr, arith}
 use Rattle.std.proofs.lemmas.Bool.Decides.{nat_tests}
-use Rattle.std.proofs.lemmas.List.{map-append}
 use Rattle.std.proofs.lemmas.List.Elements.{All-append, All-cons, All-head, All-nil, All-tail}
 use Rattle.std.specs.Cmp.Lexicographic.{pointwise}
 use Rattle.std.specs.List.{All, ends_with}
-use Rattle.dispatch_report.specs.Block.{
-  block_line_text,
-  block_lines,
-  late_as_line,
-  lines_of,
-  lines_of_answer,
-  row_as_line,
-  tree_line,
-  trip_as_line,
-}
+use Rattle.dispatch_report.specs.Block.{block_line_text, block_lines, late_as_line, lines_of_answer, row_as_line, tree_line, trip_as_line}
 use Rattle.dispatch_report.specs.Entry.{command_text, entry_line}
 use Rattle.dispatch_report.specs.Words.{spaced}
 use Rattle.dispatch_report.specs.declared.block_line.BlockLine.{BlockLine}

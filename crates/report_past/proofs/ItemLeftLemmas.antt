@@ -1,29 +1,5 @@
 -- Which texts no run leaves, by the line with which they begin.
-use Rattle.std.proofs.Common.{
-  ◌≡◌,
-  ℕ,
-  ◌<◌,
-  ◌^◌,
-  Bool,
-  true,
-  List,
-  [],
-  ◌∷◌,
-  ◌++◌,
-  codes,
-  Option,
-  Some,
-  None,
-  IfSome,
-  ◌⊎◌,
-  inl,
-  inr,
-  refl,
-  sym,
-  ap,
-  subst,
-  ◌∙◌,
-}
+use Rattle.std.proofs.Common.{◌≡◌, ℕ, ◌<◌, ◌^◌, true, List, [], ◌∷◌, ◌++◌, codes, Option, None, IfSome, inl, inr, refl, sym, ap, subst, ◌∙◌}
 use Rattle.dispatch_report.specs.Words.{numbered}
 use Rattle.report_audit.specs.declared.lines.next.NextLine.{NextLine}
 use Rattle.report_audit.specs.declared.lines.next.NextLine.TheVariants.{Round, Done, Entry as EntryOf}
@@ -32,7 +8,7 @@ use Rattle.report_audit.specs.lines.Next.{IsNextLine}
 use Rattle.report_past.proofs.CutLemmas.{cut_once, no_one_line}
 use Rattle.report_past.proofs.NextLeftLemmas.{IsNextLeft, NotRound, next_left, none_cut}
 use Rattle.report_past.proofs.WholeLeftLemmas.{Ends, ends_of}
-use Rattle.report_past.specs.work.Left.{EndsWhole, HasNoNextLine, IsLeft, IsLeftNowhere}
+use Rattle.report_past.specs.work.Left.{HasNoNextLine, IsLeft, IsLeftNowhere}
 use Rattle.report_past.specs.work.Reading.{start_text}
 use Rattle.request_book.specs.declared.values.state.State.{State}
 use Rattle.rider_limits.specs.declared.settings.Settings.{Settings}

@@ -1,67 +1,22 @@
 -- A beginning of the report of a run is left at its beginning.
-use Rattle.std.proofs.Common.{
-  ◌≡◌,
-  ◌≢◌,
-  ℕ,
-  zero,
-  suc,
-  ◌<◌,
-  ◌≤◌,
-  ◌^◌,
-  eqb,
-  Bool,
-  true,
-  false,
-  unwrap_or,
-  List,
-  [],
-  ◌∷◌,
-  ◌++◌,
-  Option,
-  Some,
-  None,
-  refl,
-  sym,
-  ap,
-  subst,
-  ◌∙◌,
-  append_assoc,
-  append-nil,
-  inl,
-  inr,
-  arith,
-}
+use Rattle.std.proofs.Common.{◌≡◌, ◌≢◌, ℕ, zero, suc, ◌<◌, ◌^◌, Bool, true, false, unwrap_or, List, []}
+use Rattle.std.proofs.Common.{◌∷◌, ◌++◌, Option, Some, None, refl, sym, ap, subst, ◌∙◌, append_assoc, inl, inr, arith}
 use Rattle.std.proofs.lemmas.Bool.{cases_eq}
 use Rattle.std.proofs.lemmas.Bool.Decides.{nat_tests}
-use Rattle.std.proofs.lemmas.List.Elements.{All-head, All-tail}
-use Rattle.std.specs.List.{All}
 unfoldable use Rattle.dispatch_engine.specs.lanes.Lane.{ClosesAreGood}
-use Rattle.dispatch_engine.specs.lanes.Lane.{IsCloseOf, IsGoodClose, IsLaneRunFrom, last_sealed, of_lane}
+use Rattle.dispatch_engine.specs.lanes.Lane.{IsCloseOf, IsGoodClose, last_sealed, of_lane}
 use Rattle.dispatch_engine.specs.lanes.Locked.{sealed_by, snapshot_before}
 use Rattle.dispatch_engine.specs.outcome.Outcome.{IsGoodOutcome}
 use Rattle.dispatch_engine.proofs.lemmas.lanes.LockedLemmas.{step-sealed}
 unfoldable use Rattle.dispatch_report.specs.Round.{entries_lines}
-use Rattle.dispatch_report.specs.Block.{block_lines}
 use Rattle.dispatch_report.specs.Entry.{entry_line}
 unfoldable use Rattle.dispatch_report.specs.Lines.{lines_text}
 use Rattle.dispatch_report.specs.Round.{entry_block, entry_text}
 use Rattle.input_rows.specs.script.Round.{MayStand}
-use Rattle.live_dispatch.proofs.lemmas.EntryLemmas.{lines-append, next-low}
+use Rattle.live_dispatch.proofs.lemmas.EntryLemmas.{lines-append}
 use Rattle.pool_io.specs.Faults.{one_more}
 use Rattle.report_audit.specs.report.Types.{AreTold, IsTold}
-use Rattle.report_past.proofs.lemmas.StepLemmas.{
-  closed_reply,
-  closed_state,
-  no_close,
-  none_owed,
-  not_owed,
-  other_lane,
-  own_lane,
-  owes_of,
-  same_owed,
-  sealed_next,
-  snapshot_none,
-}
+use Rattle.report_past.proofs.lemmas.StepLemmas.{closed_reply, closed_state, no_close, none_owed, not_owed, owes_of, same_owed, sealed_next, snapshot_none}
 use Rattle.report_past.proofs.TakeLemmas.{close_text, row_text}
 use Rattle.report_past.specs.Told.{close_of}
 use Rattle.report_past.specs.work.Left.{Goes, IsLeft}
@@ -75,7 +30,6 @@ use Rattle.request_book.specs.declared.values.command.Command.{Command}
 use Rattle.request_book.specs.declared.values.command.Command.TheVariants.{Close}
 use Rattle.request_book.specs.declared.values.journal.Entry.{Entry}
 use Rattle.request_book.specs.declared.values.outcome.Outcome.{Outcome}
-use Rattle.request_book.specs.declared.values.reply.Reply.{Reply}
 use Rattle.request_book.specs.declared.values.reply.Reply.TheVariants.{Closed}
 use Rattle.request_book.specs.declared.values.state.State.{State}
 use Rattle.rider_limits.specs.declared.settings.Settings.{Settings}

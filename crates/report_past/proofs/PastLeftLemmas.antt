@@ -1,10 +1,10 @@
 -- What is left from item to item, and of the whole text.
-use Rattle.std.proofs.Common.{◌≡◌, ◌≢◌, ℕ, Bool, false, List, [], ◌++◌, take, drop, None, refl, sym, ap, subst, ◌∙◌, append_assoc, take-append-drop}
+use Rattle.std.proofs.Common.{◌≡◌, ◌≢◌, ℕ, false, List, [], ◌++◌, take, drop, None, sym, ap, subst, ◌∙◌, append_assoc, take-append-drop}
 use Rattle.report_audit.specs.declared.report.fault.AuditFault.{AuditFault}
 use Rattle.report_audit.specs.declared.report.fault.AuditFault.TheVariants.{OutOfMemory}
 use Rattle.report_past.proofs.RunLeftLemmas.{left_of}
-use Rattle.report_past.proofs.WholeLeftLemmas.{Ends, ends_any, whole_ends}
-use Rattle.report_past.specs.Past.{MayBeLeft, PastFails}
+use Rattle.report_past.proofs.WholeLeftLemmas.{ends_any, whole_ends}
+use Rattle.report_past.specs.Past.{PastFails}
 use Rattle.report_past.specs.Whole.{IsWholeText}
 use Rattle.report_past.specs.work.Left.{EndsWhole, IsLeft, IsLeftAt, IsLeftNowhere, IsNotLeft, StaysLeft}
 use Rattle.report_past.specs.work.Reading.{Stand, stand}

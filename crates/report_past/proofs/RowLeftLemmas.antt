@@ -1,5 +1,5 @@
 -- Which lines are of no row that may come next.
-use Rattle.std.proofs.Common.{◌≡◌, ℕ, ◌<◌, Bool, true, false, List, Option, Some, None, IsTrue, ◌↔◌, unwrap_or, sym, ap, subst, ◌∙◌}
+use Rattle.std.proofs.Common.{◌≡◌, ℕ, ◌<◌, Bool, false, List, Option, Some, None, IsTrue, ◌↔◌, unwrap_or, sym, ap, subst, ◌∙◌}
 use Rattle.std.specs.Option.{is_some}
 use Rattle.dispatch_report.specs.Entry.{entry_line}
 use Rattle.input_rows.specs.script.Round.{MayStand}

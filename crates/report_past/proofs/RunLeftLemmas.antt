@@ -35,9 +35,9 @@ use Rattle.std.proofs.Common.{
 }
 use Rattle.std.proofs.lemmas.Bool.{cases_eq, cases_lt}
 use Rattle.std.proofs.lemmas.Bool.Decides.{nat_tests}
-use Rattle.std.proofs.lemmas.List.Elements.{All-append, All-cons, All-head, All-nil, All-tail, All-weaker}
+use Rattle.std.proofs.lemmas.List.Elements.{All-cons, All-head, All-nil, All-tail, All-weaker}
 use Rattle.std.proofs.lemmas.List.FromFn.{get_or-map-range_with_len}
-use Rattle.std.specs.List.{All, AllByRecursion, filter}
+use Rattle.std.specs.List.{All, filter}
 use Rattle.dispatch_engine.specs.lanes.Lane.{ClosesAreGood, IsLaneRunFrom, of_lane}
 use Rattle.dispatch_engine.specs.lanes.Locked.{sealed_by}
 use Rattle.dispatch_engine.specs.lanes.Run.{IsRoundRun, IsRun, position_after_run, state_after_run}

@@ -65,7 +65,7 @@ use Rattle.report_past.specs.Told.{close_of}
 use Rattle.report_past.specs.Whole.{after_line}
 use Rattle.report_past.specs.work.Left.{EndsWhole, IsItem, IsLeft, IsLeftAt, IsNotLeft, StaysLeft}
 use Rattle.report_past.specs.work.Reading.{IsReading, Stand, StandsIn, stand, start_text}
-use Rattle.report_past.specs.work.Taking.{EntersClose, HasNoBlock, IsNextRow, IsNoClosing, Reached, TakesClose, TakesRow, fresh}
+use Rattle.report_past.specs.work.Taking.{HasNoBlock, IsNextRow, IsNoClosing, Reached, TakesClose, TakesRow}
 use Rattle.request_book.specs.Book.{BookView, IsApplied, next_position}
 use Rattle.request_book.specs.register.Step.{step}
 use Rattle.request_book.specs.values.Batch.{Batch}
