@@ -4,11 +4,10 @@ import contextlib
 import json
 import pathlib
 import socket
-import subprocess
-import sys
 import tempfile
 
-from desk_parts.shared import LINE, LONG, PATIENCE, TOOLS, desk, fails, inputs, test
+from desk_parts.shared import LINE, LONG, PATIENCE, inputs
+from desk_parts.tokens import made, token
 
 CALLS = {
     ("GET", "/rides"): "dispatcher reader",
@@ -56,20 +55,6 @@ CALLS = {
 }
 
 
-def token(path, *words):
-    """What `token` prints on the two streams."""
-    call = [sys.executable, str(TOOLS / "desk.py"), "token", f"tokens={path}", *words]
-    done = subprocess.run(call, capture_output=True, text=True)
-    return done.returncode, done.stdout, done.stderr
-
-
-def made(path, *words):
-    """A new token."""
-    status, out, errors = token(path, *words)
-    assert status == 0 and len(out.strip()) >= 32, (words, out, errors)
-    return out.strip()
-
-
 @contextlib.contextmanager
 def tokens_of_all_roles():
     """The path of a file with a token of each role, and the tokens by role."""
@@ -79,8 +64,7 @@ def tokens_of_all_roles():
         yield path, {role: made(path, f"role={role}", *more) for role, more in words.items()}
 
 
-@test
-def each_role_may_call_what_is_its_own():
+def test_each_role_may_call_what_is_its_own(desk):
     with tokens_of_all_roles() as (path, tokens), desk(*inputs(LINE), f"tokens={path}") as it:
         for (method, place), roles in CALLS.items():
             for role in (*tokens, "nobody"):
@@ -94,8 +78,7 @@ def each_role_may_call_what_is_its_own():
         assert it.gives("GET", "/me") == {"role": "driver", "vehicle": 1, "ride": None}
 
 
-@test
-def a_driver_and_a_rider_do_a_whole_trip():
+def test_a_driver_and_a_rider_do_a_whole_trip(desk):
     with tokens_of_all_roles() as (path, tokens), desk(*inputs(LINE), *LONG, f"tokens={path}") as it:
         it.token = tokens["dispatcher"]
         it.gives("POST", "/rides", {"from": 2, "to": 4, "time": 0})
@@ -131,8 +114,7 @@ def read_until(stream, text, holds):
     return text
 
 
-@test
-def a_token_is_withdrawn_while_the_desk_runs():
+def test_a_token_is_withdrawn_while_the_desk_runs(desk):
     with tokens_of_all_roles() as (path, tokens), desk(*inputs(LINE), f"tokens={path}") as it:
         assert not any(it in path.read_text() for it in tokens.values()), "a token stands in the file"
         assert path.stat().st_mode & 0o077 == 0
@@ -162,8 +144,7 @@ def a_token_is_withdrawn_while_the_desk_runs():
         assert it.call("GET", "/rides")[0] == 401
 
 
-@test
-def faults_of_tokens_are_said_in_a_line():
+def test_faults_of_tokens_are_said_in_a_line(fails):
     with tempfile.TemporaryDirectory() as folder:
         path = pathlib.Path(folder) / "tokens"
         for words, text in ((("role=driver",), "a driver's token needs vehicle="), (("role=king",), "role=king is none of"),
@@ -180,8 +161,7 @@ def faults_of_tokens_are_said_in_a_line():
         fails("No such file", *inputs(LINE), f"tokens={folder}/none")
 
 
-@test
-def a_desk_without_tokens_takes_all_calls_of_this_machine():
+def test_a_desk_without_tokens_takes_all_calls_of_this_machine(desk):
     with desk(*inputs(LINE)) as it:
         assert it.gives("GET", "/me") == {"role": "dispatcher", "vehicle": None, "ride": None}
         it.gives("POST", "/rides", {"from": 2, "to": 4})
