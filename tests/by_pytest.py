@@ -7,16 +7,13 @@ import subprocess
 import sys
 import tempfile
 from pathlib import Path
-from typing import Iterable, List, Optional, Set
+from typing import Any, Iterable, List, Optional, Set
+
+from skips import last_line
 
 TESTS = Path(__file__).resolve().parent
 DEBIAN_PYTHON = "/usr/bin/python3"  # Debian's packages belong to it
 PROBE = "import sys; from ridepool import words; sys.exit(bool(words.missing_modules(sys.argv[1:])))"
-
-
-def last_line(passed: int, failed: int, skipped: int = 0) -> str:
-    """The last line of a script of tests."""
-    return f"{passed} passed, {failed} failed" + (f", {skipped} skipped" if skipped else "")
 
 
 def python_with(modules: Iterable[str]) -> Optional[str]:
@@ -46,9 +43,9 @@ class Count:
         self.names, self.unknown = names, names
         self.passed, self.failed, self.skipped = 0, 0, 0
 
-    def pytest_collection_modifyitems(self, config, items) -> None:  # type: ignore[no-untyped-def]
+    def pytest_collection_modifyitems(self, items: List[Any]) -> None:
         """Leaves the tests whose names, or whose files' names, were given, with `test_` before them or without."""
-        def names(item):  # type: ignore[no-untyped-def]
+        def names(item: Any) -> Set[str]:
             return {it.removeprefix(start) for it in (item.originalname, item.path.stem) for start in ("", "test_")}
 
         if self.names:
@@ -56,7 +53,7 @@ class Count:
             self.unknown = self.names.difference(*found.values())
             items[:] = [it for it in items if found[it] & self.names]
 
-    def pytest_runtest_logreport(self, report) -> None:  # type: ignore[no-untyped-def]
+    def pytest_runtest_logreport(self, report: Any) -> None:
         """A part of a test: its setup, its call, or what clears up."""
         if report.failed:
             self.failed += 1
@@ -68,7 +65,7 @@ class Count:
         elif report.when == "call":
             self.passed += 1
 
-    def pytest_collectreport(self, report) -> None:  # type: ignore[no-untyped-def]
+    def pytest_collectreport(self, report: Any) -> None:
         """A file that can't be read as tests."""
         if report.failed:
             self.failed += 1

@@ -5,6 +5,7 @@ import sys
 from pathlib import Path
 
 import pytest
+from faults import Shim
 
 TOP = Path(__file__).resolve().parent.parent
 sys.dont_write_bytecode = True
@@ -42,3 +43,12 @@ def folder(tmp_path):
 def seed(pytestconfig):
     """The seed of what is drawn."""
     return pytestconfig.getoption("seed")
+
+
+@pytest.fixture(scope="session")
+def shim(program):
+    """The library by which calls of the program fail."""
+    found = Shim(program)
+    if found.why:
+        pytest.skip(found.why)
+    return found
