@@ -8,6 +8,8 @@ import shutil
 import pytest
 from desk_parts.shared import until
 
+WIDE, HIGH = 390, 844  # of a phone
+
 
 @contextlib.contextmanager
 def page(it, width, height):

@@ -7,11 +7,9 @@ import socket
 import tempfile
 import threading
 
-from desk_parts.browser import fits, keep_picture, opened, text_of
+from desk_parts.browser import HIGH, WIDE, fits, keep_picture, opened, text_of
 from desk_parts.shared import LINE, LONG, TOWN, inputs, until
 from desk_parts.tokens import made
-
-WIDE, HIGH = 390, 844
 
 
 class Line:
