@@ -5,7 +5,6 @@ import json
 import pathlib
 import re
 import socket
-import tempfile
 
 from desk_parts.events import Events
 from desk_parts.shared import LINE, LONG, OWN, PATIENCE, TOWN, folder_for_days, inputs
@@ -164,23 +163,22 @@ def test_other_sites_and_large_bodies_are_refused(desk):
         assert it.call("POST", "/rides", raw=body, headers=own)[0] == 201
 
 
-def test_a_token_is_asked_of_each_writing_call(desk, fails):
-    with tempfile.TemporaryDirectory() as place:
-        file = pathlib.Path(place) / "token"
-        file.write_text("0123456789abcdef\n")
-        with desk(*inputs(LINE), f"token={file}", "host=0.0.0.0", "name=desk.example") as it:
-            calls = (("POST", "/rides", {"from": 2, "to": 4}), ("DELETE", "/rides/1", None), ("POST", "/seal", None),
-                     ("POST", "/vehicles/1/position", {"node": 1}), ("POST", "/vehicles/1/pickup", {"ride": 1}),
-                     ("POST", "/vehicles/1/dropoff", {"ride": 1}), ("GET", "/rides"), ("GET", "/network"), ("GET", "/events"))
-            for it.token in (None, "0123456789abcdeF", "0123456789abcde", "wrong"):
-                assert all(it.call(*call)[0] == 401 for call in calls)
-            it.token = "0123456789abcdef"
-            assert it.gives("GET", "/rides") == []
-            assert it.call("GET", "/rides", headers={"host": f"desk.example:{it.port}"})[0] == 200
-            assert it.gives("POST", "/rides", {"from": 2, "to": 4})["ride"] == 1
-            assert it.gives("GET", "/network")["needs_token"] is True
-        file.write_text("short")
-        fails("a token is one word of at least 16 letters", *inputs(LINE), f"token={file}")
+def test_a_token_is_asked_of_each_writing_call(desk, fails, tmp_path):
+    file = tmp_path / "token"
+    file.write_text("0123456789abcdef\n")
+    with desk(*inputs(LINE), f"token={file}", "host=0.0.0.0", "name=desk.example") as it:
+        calls = (("POST", "/rides", {"from": 2, "to": 4}), ("DELETE", "/rides/1", None), ("POST", "/seal", None),
+                 ("POST", "/vehicles/1/position", {"node": 1}), ("POST", "/vehicles/1/pickup", {"ride": 1}),
+                 ("POST", "/vehicles/1/dropoff", {"ride": 1}), ("GET", "/rides"), ("GET", "/network"), ("GET", "/events"))
+        for it.token in (None, "0123456789abcdeF", "0123456789abcde", "wrong"):
+            assert all(it.call(*call)[0] == 401 for call in calls)
+        it.token = "0123456789abcdef"
+        assert it.gives("GET", "/rides") == []
+        assert it.call("GET", "/rides", headers={"host": f"desk.example:{it.port}"})[0] == 200
+        assert it.gives("POST", "/rides", {"from": 2, "to": 4})["ride"] == 1
+        assert it.gives("GET", "/network")["needs_token"] is True
+    file.write_text("short")
+    fails("a token is one word of at least 16 letters", *inputs(LINE), f"token={file}")
     fails("host= needs tokens=FILE or token=FILE", *inputs(LINE), "host=0.0.0.0")
     fails("each name has to stand there in full", *inputs(LINE), "name=*.example")
 

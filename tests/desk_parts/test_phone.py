@@ -213,23 +213,21 @@ def test_a_rider_sees_the_vehicle_come_and_cancels(desk):
         assert it.gives("GET", "/rides/1")["state"] == "cancelled"
 
 
-def test_riders_names_stand_in_no_row_and_are_deleted_by_a_call(desk):
-    with tempfile.TemporaryDirectory() as place:
-        folder = pathlib.Path(place) / "day"
-        with desk(*inputs(LINE), folder=folder) as it:
-            it.gives("POST", "/rides", {"from": 2, "to": 4, "who": "Ada Lovelace", "note": "a \u2713"})
-            it.gives("POST", "/rides", {"from": 2, "to": 4})
-            assert it.gives("GET", "/rides/1/contact") == {"who": "Ada Lovelace", "phone": None, "note": "a \u2713"}
-            assert it.gives("GET", "/rides/2/contact") == {"who": None, "phone": None, "note": None}
-            it.gives("POST", "/rides/2/contact", {"phone": "+43 1 234"})
-            assert it.call("POST", "/rides", {"from": 2, "to": 4, "who": "x" * 201})[0] == 422
-            assert it.call("POST", "/rides/2/contact", {"phone": 7})[0] == 422
-        with desk(folder=folder) as it:
-            assert it.gives("GET", "/rides/1/contact")["who"] == "Ada Lovelace"
-            assert it.gives("DELETE", "/rides/1/contact") == {"deleted": True}
-            assert it.call("DELETE", "/rides/1/contact")[1] == {"deleted": False}
-            assert it.gives("GET", "/rides/1/contact")["who"] is None
-            assert it.gives("GET", "/rides/2/contact")["phone"] == "+43 1 234"
-        found = [path.name for path in folder.iterdir() if "Lovelace" in path.read_text() or "+43 1 234" in path.read_text()]
-        assert found == ["contacts.jsonl"] and "Lovelace" not in (folder / "contacts.jsonl").read_text(), found
-        assert (folder / "contacts.jsonl").stat().st_mode & 0o077 == 0
+def test_riders_names_stand_in_no_row_and_are_deleted_by_a_call(desk, folder):
+    with desk(*inputs(LINE), folder=folder) as it:
+        it.gives("POST", "/rides", {"from": 2, "to": 4, "who": "Ada Lovelace", "note": "a \u2713"})
+        it.gives("POST", "/rides", {"from": 2, "to": 4})
+        assert it.gives("GET", "/rides/1/contact") == {"who": "Ada Lovelace", "phone": None, "note": "a \u2713"}
+        assert it.gives("GET", "/rides/2/contact") == {"who": None, "phone": None, "note": None}
+        it.gives("POST", "/rides/2/contact", {"phone": "+43 1 234"})
+        assert it.call("POST", "/rides", {"from": 2, "to": 4, "who": "x" * 201})[0] == 422
+        assert it.call("POST", "/rides/2/contact", {"phone": 7})[0] == 422
+    with desk(folder=folder) as it:
+        assert it.gives("GET", "/rides/1/contact")["who"] == "Ada Lovelace"
+        assert it.gives("DELETE", "/rides/1/contact") == {"deleted": True}
+        assert it.call("DELETE", "/rides/1/contact")[1] == {"deleted": False}
+        assert it.gives("GET", "/rides/1/contact")["who"] is None
+        assert it.gives("GET", "/rides/2/contact")["phone"] == "+43 1 234"
+    found = [path.name for path in folder.iterdir() if "Lovelace" in path.read_text() or "+43 1 234" in path.read_text()]
+    assert found == ["contacts.jsonl"] and "Lovelace" not in (folder / "contacts.jsonl").read_text(), found
+    assert (folder / "contacts.jsonl").stat().st_mode & 0o077 == 0

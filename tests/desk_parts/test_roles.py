@@ -1,11 +1,9 @@
 """Tests of who may do what: tokens with roles, and the log of calls."""
 
-import contextlib
 import json
-import pathlib
 import socket
-import tempfile
 
+import pytest
 from desk_parts.shared import LINE, LONG, PATIENCE, inputs
 from desk_parts.tokens import made, token
 
@@ -55,17 +53,21 @@ CALLS = {
 }
 
 
-@contextlib.contextmanager
-def tokens_of_all_roles():
-    """The path of a file with a token of each role, and the tokens by role."""
-    with tempfile.TemporaryDirectory() as folder:
-        path = pathlib.Path(folder) / "tokens"
-        words = {"dispatcher": (), "reader": (), "driver": ("vehicle=1",), "rider": ("ride=1",)}
-        yield path, {role: made(path, f"role={role}", *more) for role, more in words.items()}
+@pytest.fixture
+def path(tmp_path):
+    """Where a file of tokens may stand."""
+    return tmp_path / "tokens"
 
 
-def test_each_role_may_call_what_is_its_own(desk):
-    with tokens_of_all_roles() as (path, tokens), desk(*inputs(LINE), f"tokens={path}") as it:
+@pytest.fixture
+def tokens(path):
+    """A token of each role by its role, in a file."""
+    words = {"dispatcher": (), "reader": (), "driver": ("vehicle=1",), "rider": ("ride=1",)}
+    return {role: made(path, f"role={role}", *more) for role, more in words.items()}
+
+
+def test_each_role_may_call_what_is_its_own(desk, path, tokens):
+    with desk(*inputs(LINE), f"tokens={path}") as it:
         for (method, place), roles in CALLS.items():
             for role in (*tokens, "nobody"):
                 it.token = tokens.get(role)
@@ -78,8 +80,8 @@ def test_each_role_may_call_what_is_its_own(desk):
         assert it.gives("GET", "/me") == {"role": "driver", "vehicle": 1, "ride": None}
 
 
-def test_a_driver_and_a_rider_do_a_whole_trip(desk):
-    with tokens_of_all_roles() as (path, tokens), desk(*inputs(LINE), *LONG, f"tokens={path}") as it:
+def test_a_driver_and_a_rider_do_a_whole_trip(desk, path, tokens):
+    with desk(*inputs(LINE), *LONG, f"tokens={path}") as it:
         it.token = tokens["dispatcher"]
         it.gives("POST", "/rides", {"from": 2, "to": 4, "time": 0})
         it.gives("POST", "/rides", {"from": 3, "to": 5, "time": 0})
@@ -114,8 +116,8 @@ def read_until(stream, text, holds):
     return text
 
 
-def test_a_token_is_withdrawn_while_the_desk_runs(desk):
-    with tokens_of_all_roles() as (path, tokens), desk(*inputs(LINE), f"tokens={path}") as it:
+def test_a_token_is_withdrawn_while_the_desk_runs(desk, path, tokens):
+    with desk(*inputs(LINE), f"tokens={path}") as it:
         assert not any(it in path.read_text() for it in tokens.values()), "a token stands in the file"
         assert path.stat().st_mode & 0o077 == 0
         lines = token(path)[1].splitlines()
@@ -144,21 +146,19 @@ def test_a_token_is_withdrawn_while_the_desk_runs(desk):
         assert it.call("GET", "/rides")[0] == 401
 
 
-def test_faults_of_tokens_are_said_in_a_line(fails):
-    with tempfile.TemporaryDirectory() as folder:
-        path = pathlib.Path(folder) / "tokens"
-        for words, text in ((("role=driver",), "a driver's token needs vehicle="), (("role=king",), "role=king is none of"),
-                            (("role=rider", "vehicle=1"), "a rider's token needs ride="),
-                            (("role=reader", "vehicle=1"), "a reader has no vehicle="),
-                            (("role=driver", "vehicle=x"), "is not a whole number"), (("withdraw=x",), "there is no token x"),
-                            (("colour=red",), "unknown word colour=red")):
-            status, out, errors = token(path, *words)
-            assert status == 2 and text in errors and out == "", (words, status, out, errors)
-        assert not path.exists()
-        path.write_text("{}\n")
-        assert token(path)[0] == 2
-        fails("line 1 is not that of a token", *inputs(LINE), f"tokens={path}")
-        fails("No such file", *inputs(LINE), f"tokens={folder}/none")
+def test_faults_of_tokens_are_said_in_a_line(fails, path):
+    for words, text in ((("role=driver",), "a driver's token needs vehicle="), (("role=king",), "role=king is none of"),
+                        (("role=rider", "vehicle=1"), "a rider's token needs ride="),
+                        (("role=reader", "vehicle=1"), "a reader has no vehicle="),
+                        (("role=driver", "vehicle=x"), "is not a whole number"), (("withdraw=x",), "there is no token x"),
+                        (("colour=red",), "unknown word colour=red")):
+        status, out, errors = token(path, *words)
+        assert status == 2 and text in errors and out == "", (words, status, out, errors)
+    assert not path.exists()
+    path.write_text("{}\n")
+    assert token(path)[0] == 2
+    fails("line 1 is not that of a token", *inputs(LINE), f"tokens={path}")
+    fails("No such file", *inputs(LINE), f"tokens={path.parent}/none")
 
 
 def test_a_desk_without_tokens_takes_all_calls_of_this_machine(desk):
