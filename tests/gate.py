@@ -23,7 +23,7 @@ TOP = Path(__file__).resolve().parent.parent
 TOOLS = "bash cat dirname env grep mktemp readlink rm setsid sleep tail tee timeout".split()
 BEGUN = re.findall(r"^begin (\w+) ?(.*)$", (TOP / "check").read_text(), re.M)
 PARTS = [name for name, _ in BEGUN]
-BY_HAND = {"edits", "make_day", "make_sumo_day", "walked", "wrong_program"}
+BY_HAND = {"edits", "make_day", "make_desk_pictures", "make_sumo_day", "walked", "wrong_program"}
 LOOKS = ("trail", "rooms", "parameters", "uncalled", "maps")  # the tools that look at the sources
 # What ./check counts beside the parts: the release by checksums and the looks. The gate holds the bytes, too.
 OWN, OWN_OF_GATE = 1 + len(LOOKS), 2 + len(LOOKS)

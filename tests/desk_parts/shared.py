@@ -32,10 +32,11 @@ def until(holds, what, patience=PATIENCE):
 
 
 class Desk:
-    """A started desk, of which the day so far is read; where it isn't waited for, its port answers. The port is a free one;
-    batches are sealed by calls alone, if `every` isn't given."""
+    """A started desk, which has said what it is waited for: that it keeps its day or, while the day so far is read, that its
+    port answers. With None it isn't waited for. The port is a free one; batches are sealed by calls alone, if `every` isn't
+    given."""
 
-    def __init__(self, folder, *arguments, program=None, most_bytes=None, tool=TOOLS / "desk.py", waits=True):
+    def __init__(self, folder, *arguments, program=None, most_bytes=None, tool=TOOLS / "desk.py", waits_for="keeps its day"):
         extra = ["port=0", *([f"program={program}"] if program else [])]
         if not {"demo", "every=0"} & set(arguments) and not pathlib.Path(folder, "day.json").exists():
             extra.append("every=0")
@@ -46,7 +47,7 @@ class Desk:
             preexec_fn=most_bytes and (lambda: resource.setrlimit(resource.RLIMIT_FSIZE, (most_bytes, most_bytes))))
         self.child.stdin.close()
         self.folder, self.said, self.token = pathlib.Path(folder), [], None
-        self.port = self.opened("keeps its day" if waits else "answers")
+        self.port = self.opened(waits_for) if waits_for else None
 
     def opened(self, what="keeps its day"):
         """The port, which the desk says when it is open."""
@@ -147,7 +148,7 @@ def held_desk(folder, program):
         held = pathlib.Path(place) / "held"
         held.write_text(HELD.format(folder=place, program=program))
         held.chmod(0o755)
-        it = Desk(folder, f"program={held}", waits=False)
+        it = Desk(folder, f"program={held}", waits_for="answers")
         try:
             assert it.port, it.said
             yield it, (held.parent / "go").touch

@@ -5,7 +5,6 @@ import contextlib
 import http.client
 import json
 import os
-import random
 import re
 import signal
 import socket
@@ -87,37 +86,6 @@ def test_fifty_clients_at_once_and_the_state_after_a_kill(desk, audited, folder)
         it.plan()
         batches = len(it.gives("GET", "/batches"))
     audited(folder, batches)
-
-
-def test_kills_at_forty_drawn_moments_lose_nothing_answered(desk, folder):
-    draws = random.Random(67)
-    answered = []
-    for turn in range(40):
-        with desk(*(inputs(TOWN) if turn == 0 else ()), folder=folder) as it:
-            assert sorted(r["ride"] for r in it.gives("GET", "/rides")) == answered
-            with concurrent.futures.ThreadPoolExecutor(4) as pool:
-                calls = [pool.submit(it.call, "POST", "/rides", {"from": 1, "to": 2 + n}) for n in range(20)]
-                if turn % 2:
-                    wait_for(calls, draws.randrange(10))
-                    os.kill(it.live(), signal.SIGKILL)
-                wait_for(calls, draws.randrange(20))
-                it.child.send_signal(signal.SIGKILL)
-                it.end()
-            for call in calls:
-                with contextlib.suppress(OSError, http.client.HTTPException):
-                    status, answer = call.result()
-                    answered += [answer["ride"]] if status == 201 else []
-            lines = re.findall(r"^\d+ \d+ submit (\d+) .* accepted$", (folder / "transcript").read_text(), re.M)
-            kept = sorted(map(int, lines))
-            assert set(answered) <= set(kept), (answered, kept)
-            answered = kept
-    assert answered, "no call was answered before a kill"
-
-
-def wait_for(calls, count):
-    """Waits until so many calls are over."""
-    for _ in zip(range(count), concurrent.futures.as_completed(calls)):
-        pass
 
 
 def test_a_day_that_was_cut_behind_any_line_goes_on(desk, folder):
