@@ -7,7 +7,7 @@ import subprocess
 import sys
 import tempfile
 from pathlib import Path
-from typing import Any, Iterable, List, Optional, Set
+from typing import Any, Iterable, List, Optional, Set, Tuple
 
 from skips import last_line
 
@@ -31,9 +31,27 @@ def files_of(places: Iterable[str]) -> List[Path]:
     return [file for path in paths for file in (sorted(path.glob("test_*.py")) if path.is_dir() else [path])]
 
 
-def tests_in(file: Path) -> List[str]:
-    """The names of the tests of a file, for the count of those that can't be tried."""
-    return re.findall(r"^def (test_\w+)", file.read_text(), re.M)
+def is_place(word: str) -> bool:
+    """Whether a word is the path of a file of tests or of a test in one."""
+    return not word.startswith("-") and ("::" in word or "/" in word or word.endswith(".py"))
+
+
+def names_of(test: str, file: str) -> Set[str]:
+    """By which names a test of a file can be called."""
+    return {it.removeprefix(start) for it in (test, file) for start in ("", "test_")}
+
+
+def untried(names: Set[str], places: Iterable[str]) -> int:
+    """How many tests have one of the names, or all, where they can't be tried."""
+    found = [(test, file.stem) for file in files_of(places) for test in re.findall(r"^def (test_\w+)", file.read_text(), re.M)]
+    return sum(not names or bool(names_of(*it) & names) for it in found)
+
+
+def parted(words: List[str]) -> Tuple[Set[str], List[str]]:
+    """The names of tests, and what goes to pytest: places, and all from the first word on that begins with `-`."""
+    start = next((number for number, word in enumerate(words) if word.startswith("-")), len(words))
+    places = [*filter(is_place, words[:start])]
+    return set(words[:start]).difference(places), [*places, *words[start:]]
 
 
 class Count:
@@ -45,11 +63,8 @@ class Count:
 
     def pytest_collection_modifyitems(self, items: List[Any]) -> None:
         """Leaves the tests whose names, or whose files' names, were given, with `test_` before them or without."""
-        def names(item: Any) -> Set[str]:
-            return {it.removeprefix(start) for it in (item.originalname, item.path.stem) for start in ("", "test_")}
-
         if self.names:
-            found = {it: names(it) for it in items}
+            found = {it: names_of(it.originalname, it.path.stem) for it in items}
             self.unknown = self.names.difference(*found.values())
             items[:] = [it for it in items if found[it] & self.names]
 
@@ -74,13 +89,13 @@ class Count:
 
 def main(*places: str, needs: Iterable[str] = ()) -> int:
     """Runs the tests of these files and folders of tests/ on the program that the first word names: all, or those that the
-    other words name. Words that begin with `-` go to pytest. Gives the status."""
+    next words name. From the first word on that begins with `-` all go to pytest. Gives the status."""
     if len(sys.argv) < 2:
         sys.exit(f"use: {Path(sys.argv[0]).name} PROGRAM [NAME ..] [WORDS OF PYTEST ..]")
     python = python_with(["pytest", *needs])
     if python is None:
         print(f"skipped: {' and '.join(places)}, since no Python here has {' and '.join(['pytest', *needs])}: tests/packages")
-        print(last_line(0, 0, sum(len(tests_in(file)) for file in files_of(places))))
+        print(last_line(0, 0, untried(parted(sys.argv[2:])[0], places)))
         return 0
     if python != sys.executable:
         os.execv(python, [python, *sys.argv])
@@ -92,12 +107,12 @@ def tried(program: Path, words: List[str], places: Iterable[str]) -> int:
     import pytest
 
     sys.dont_write_bytecode = True
-    options = [it for it in words if it.startswith("-")]
-    nodes = [it for it in words if not it.startswith("-") and ("::" in it or it.endswith(".py"))]
-    count = Count(set(words).difference(options, nodes))
+    names, given = parted(words)
+    count = Count(names)
+    own = [] if any(map(is_place, given)) else [str(TESTS / it) for it in places]
     with tempfile.TemporaryDirectory(prefix="ridepool-tests-") as folder:
         quiet = ["-q", "--no-header", "--no-summary", f"--basetemp={folder}/tests", f"--program={program}"]
-        status = pytest.main([*quiet, *options, *(nodes or [str(TESTS / it) for it in places])], plugins=[count])
+        status = pytest.main([*quiet, *given, *own], plugins=[count])
     if count.unknown:
         print(f"no test has this name: {' '.join(sorted(count.unknown))}")
         count.failed += 1

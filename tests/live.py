@@ -1,7 +1,7 @@
 #!/usr/bin/env python3
 """Talks to `ridepool live` through pipes, as a dispatcher would, by pytest.
 
-    live.py PROGRAM [--rows=N] [--seed=N] [--seconds=N] [NAME ..] [WORDS OF PYTEST ..]
+    live.py PROGRAM [NAME ..] [--rows=N] [--seed=N] [--seconds=N] [WORDS OF PYTEST ..]
 
 A client sends a row and waits for its answer before it writes the next: what is tested is this order. A call that says
 nothing for two seconds, or for so many as `--seconds` says, is taken to hang. What the program writes has to be the report of

@@ -28,13 +28,13 @@ TOWN, DRIVEN = ("large.py", "town-run"), ("large.py", "seed-1")
 SUMMARY = ("large.py", "seed-2")
 NOTICES = ("run.py", "notices-of-two-batches", "day-with-notices-of-two-batches")
 AUDITS = ("audited.py", "8", "1", "load")
-ANSWERS = ("live.py", PATIENCE, "one_row_at_a_time")
+ANSWERS = ("live.py", "one_row_at_a_time", PATIENCE)
 FOUND_BY: Dict[str, List[Tuple[str, ...]]] = {
     **{way: [TOWN, DRIVEN, SUMMARY] for way in CHANGES if way != "summary-of-more"},
     "summary-of-more": [SUMMARY],
     "last-notice-dropped": [NOTICES, DRIVEN],
     "large-reports-confirmed": [AUDITS],
-    "answers-held-back": [ANSWERS, ("live.py", PATIENCE, "drawn_rows_one_by_one")],
+    "answers-held-back": [ANSWERS, ("live.py", "drawn_rows_one_by_one", PATIENCE)],
 }
 
 
