@@ -39,6 +39,8 @@ def cluster(folder, workers):
         call = [sys.executable, "-m", f"distributed.cli.dask_{kind}", "--scheduler-file", address, "--no-dashboard", *words]
         begun.append(subprocess.Popen(call, cwd=folder, stdout=subprocess.DEVNULL, stderr=subprocess.DEVNULL))
         while not address.exists():
+            if begun[-1].poll() is not None:
+                sys.exit(f"{sys.executable} can't start a scheduler: it takes Dask's distributed")
             time.sleep(0.1)
     return json.loads(address.read_text())["address"], begun
 

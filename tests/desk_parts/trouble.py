@@ -193,13 +193,19 @@ def the_trouble_is_told_at_once_where_the_dispatcher_ended():
 @test
 def a_little_lead_of_a_vehicle_moves_no_clock():
     from ridepool.desk.book import Book
+    from ridepool.sessions.rows import entrys_row
     from ridepool.sessions.state import Vehicle
 
     lines = ["ridepool report 1", "settings wait=120", "network nodes=5 arcs=8", "fleet vehicles=1", "round 0",
              "0 0 seal 100 sealed 1", "1 0 close 1 closed", "batch 1", "row 1 0", "overflow", "end", "2 13 report 1 1 1500 placed",
              "3 13 report 1 1 900000 refused unknown-node"]
-    book = Book([Vehicle(1, 4, 1, 0)])
-    assert len(book.lines(lines)) == 5 and book.open_batch is None
+    book, slow = Book([Vehicle(1, 4, 1, 0)]), Book([Vehicle(1, 4, 1, 0)])
+    changes = [it for it in map(slow.line, lines) if it is not None]
+    rows, last = book.past(lines)
+    assert rows == [entrys_row(it.entry) for it in changes if it.entry is not None and it.entry.command != "close"], rows
+    assert len(changes) == 5 and len(rows) == 3 and book.open_batch is None
+    assert last is not None and last.batch == changes[2].batch and vars(book.seconds) == vars(slow.seconds)
+    assert book.state.vehicles == slow.state.vehicles and book.state.batches == slow.state.batches
     assert book.seconds.last(700, 900) == 100
     assert book.seconds.last(599, 900) == 1500
     assert Book([]).seconds.last(50, 900) == 0

@@ -4,10 +4,11 @@ from __future__ import annotations
 
 from collections import Counter
 from typing import Counter as Counts
-from typing import List, Optional, Sequence
+from typing import List, Optional, Sequence, Tuple
 
 from ridepool.desk.totals import Trip
 from ridepool.report.reader import COUNTED, Entry
+from ridepool.sessions.rows import entrys_row
 from ridepool.sessions.state import Change, State, Vehicle
 
 COUNTED_REPLIES = {"dropped": "delivered", "cancelled": "cancelled"}
@@ -61,28 +62,43 @@ class Book:
             self.count(change.entry)
         return change
 
-    def lines(self, texts: Sequence[str]) -> List[Change]:
-        """Takes lines of which nobody waits for one, and gives what they changed. Those of graphs and trees are told by their
-        first word, and only counted."""
-        found, begin = [], 0
+    def past(self, texts: Sequence[str]) -> Tuple[List[str], Optional[Change]]:
+        """Takes lines of which nobody waits for one. Gives the rows that they answer, and the last plan among them. Lines of
+        graphs and trees are told by their first word, and only counted."""
+        rows: List[str] = []
+        last, begin = None, 0
         for place in [at for at, text in enumerate(texts) if text[:3] not in GRAPH]:
             self.skip(texts[begin:place])
-            change = self.line(texts[place])
-            if change is not None:
-                found.append(change)
+            last = self.past_line(texts[place], rows) or last
             begin = place + 1
         self.skip(texts[begin:])
-        return found
+        return rows, last
+
+    def past_line(self, text: str, rows: List[str]) -> Optional[Change]:
+        """Takes such a line, and adds its row. Gives the plan that it closes, if so."""
+        words, lines = text.split(" "), self.state.lines
+        if lines.batch is not None and words[0] != "end":
+            lines.batch_line(lines.batch, *words)
+        elif words[2:3] == ["report"] and words[6:] == ["placed"]:
+            rows.append(self.state.placed(*words[:2], *words[3:6]))
+            self.seconds.entered = max(self.seconds.entered, int(words[5]))
+        else:
+            change = self.line(text)
+            if change is not None and change.entry is not None and change.entry.command != "close":
+                rows.append(entrys_row(change.entry))
+            return change if change is not None and change.batch is not None else None
+        return None
 
     def skip(self, texts: Sequence[str]) -> None:
         """Counts lines of a graph or of a tree."""
+        if not texts:
+            return
         batch = self.state.lines.batch
-        if texts and batch is None:
+        if batch is None:
             raise ValueError("a line of a graph stands in no block")
-        if texts and batch is not None:
-            whole = "\n".join(["", *texts])
-            for word in COUNTED:
-                batch.counts[word] += whole.count(f"\n{word} ")
+        whole = "\n".join(["", *texts])
+        for word in COUNTED:
+            batch.counts[word] += whole.count(f"\n{word} ")
 
     def count(self, entry: Entry) -> None:
         """Counts who was delivered or cancelled."""

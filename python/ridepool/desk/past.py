@@ -7,7 +7,6 @@ from typing import List, Optional
 
 from ridepool.desk.book import Book
 from ridepool.desk.new_files import NewFiles
-from ridepool.sessions.rows import entrys_row
 from ridepool.sessions.stand import Stand
 from ridepool.sessions.state import Change
 
@@ -26,10 +25,9 @@ class Past:
     def take(self, lines: List[str]) -> None:
         """Takes whole lines."""
         self.read += sum(map(len, lines)) + len(lines)
-        changes = self.book.lines(lines)
-        rows = (entrys_row(it.entry) for it in changes if it.entry is not None and it.entry.command != "close")
+        rows, last = self.book.past(lines)
         self.files.write("".join(rows), "\n".join([*lines, ""]))
-        self.last = next((it for it in reversed(changes) if it.batch is not None), self.last)
+        self.last = last or self.last
 
     @property
     def is_through(self) -> bool:

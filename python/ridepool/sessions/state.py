@@ -79,11 +79,15 @@ class Lines(Reader):
             self.closed = self.report.batches.pop()
         return self.last_entry or self.closed
 
-    def entry(self, entry: Entry) -> None:
-        """A command's line, whose position must be the next one."""
-        if entry.position != self.count:
+    def follow(self, position: int) -> None:
+        """Counts a command's line, whose position must be the next one."""
+        if position != self.count:
             raise ValueError
         self.count += 1
+
+    def entry(self, entry: Entry) -> None:
+        """A command's line."""
+        self.follow(entry.position)
         if entry.command == "seal" and entry.reply.startswith("sealed "):
             self.seals = {int(entry.reply.split(" ")[1]): entry.fields[0]}
         self.begun.entries = [entry]
@@ -113,6 +117,14 @@ class State:
         if not found.reply.startswith("refused"):
             getattr(self, found.command)(change, *found.fields)
         return change
+
+    def placed(self, position: str, lane: str, vehicle: str, node: str, second: str) -> str:
+        """Takes the line of a report that wasn't refused, as `line` does. Gives its row. It is many times as fast, and most of
+        a day's lines are such."""
+        self.lines.follow(int(position))
+        it = self.vehicles[int(vehicle)]
+        it.node, it.second = int(node), int(second)
+        return f"{self.lines.round},{lane},report,{vehicle},{node},{second},,\n"
 
     def submit(self, change: Change, rider: int, origin: int, destination: int, second: int) -> None:
         assert change.entry is not None

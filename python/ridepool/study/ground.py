@@ -16,7 +16,7 @@ from ridepool.inputs.moments import zone_of
 from ridepool.inputs.streets import Streets
 from ridepool.inputs.tables import Node
 from ridepool.study.plan import Cell, Plan
-from ridepool.study.zones import parts_of, zones_of
+from ridepool.study.zones import at_most, parts_of, zones_of
 from ridepool.words import Fault, number
 
 CITY_COLUMNS = dict(zip(("time", "from_lon", "from_lat", "to_lon", "to_lat", "persons"), made_city.TRIPS))
@@ -108,9 +108,9 @@ class Ground:
             raise Fault(f"{cell.vehicles} vehicles are too few for {counted(cell)}")
         key = "riders", cell.demand, count_of(cell), split_of(cell), seed_of(cell)
         riders, nodes = self.recent.get(key, lambda: self.split(cell))
-        # Of one demand each fleet gets its share; where riders go to any fleet, all get as many vehicles.
+        # Of one demand each fleet gets its share, as far as one process takes it; where riders go to any fleet, all get as many.
         weights = [1] * count_of(cell) if split_of(cell) == "nearest" else [len(mine) for mine in riders]
-        fleets = parts_of(cell.vehicles, weights)
+        fleets = at_most(parts_of(cell.vehicles, weights), tables.MOST_VEHICLES)
         if max(fleets) > tables.MOST_VEHICLES:
             raise Fault(f"vehicles={cell.vehicles} {counted(cell)}: {max(fleets)} vehicles in one, and ridepool "
                         f"takes {tables.MOST_VEHICLES}")

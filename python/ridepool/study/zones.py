@@ -55,3 +55,17 @@ def parts_of(whole: int, weights: Sequence[float]) -> List[int]:
     for at in order[:rest - sum(parts)]:
         parts[at] += 1
     return [part + 1 for part in parts]
+
+
+def at_most(parts: Sequence[int], most: int) -> List[int]:
+    """The same whole in as many parts, none above `most` where the whole allows it: what is above goes to the smallest.
+
+    >>> at_most([515, 495, 490], 500), at_most([502, 502], 500)
+    ([500, 500, 500], [502, 502])
+    """
+    if sum(parts) > most * len(parts):
+        return list(parts)
+    held = [min(part, most) for part in parts]
+    for _ in range(sum(parts) - sum(held)):
+        held[held.index(min(held))] += 1
+    return held
