@@ -14,8 +14,7 @@ import time
 sys.dont_write_bytecode = True
 
 from desk_parts import shared  # noqa: E402
-from desk_parts.page import fits, opened, page, text_of  # noqa: E402
-from desk_parts.phone import HIGH, WIDE  # noqa: E402
+from desk_parts.browser import HIGH, WIDE, fits, opened, page, text_of  # noqa: E402
 
 STANDS, FROM = 6, 300  # the vehicle whose driver stands still from this second on, with passengers
 RESTS, DRIVES = 10, (2, 3, 4, 5, 7, 8, 9)
@@ -102,12 +101,12 @@ def keep_page(it, folder):
 
 def main():
     """Makes them."""
-    shared.PROGRAM = str(pathlib.Path(sys.argv[1]).resolve())
+    program = str(pathlib.Path(sys.argv[1]).resolve())
     folder = pathlib.Path(sys.argv[2]) if len(sys.argv) > 2 else shared.TOP / "docs" / "pictures"
     with tempfile.TemporaryDirectory() as place:
         tool = pathlib.Path(place) / "demo.py"
         tool.write_text(DEMO)
-        with shared.desk("demo", "speed=10", tool=tool, folder=pathlib.Path(place) / "day") as it:
+        with shared.desk("demo", "speed=10", program=program, tool=tool, folder=pathlib.Path(place) / "day") as it:
             it.gives("POST", f"/vehicles/{RESTS}/break")
             shared.until(lambda: it.second() > FROM, "the driver stands still", 10 * shared.PATIENCE)
             shared.until(lambda: has_trouble(it), "trouble", 10 * shared.PATIENCE)
