@@ -3,6 +3,7 @@
 import contextlib
 import http.client
 import json
+import os
 import pathlib
 import re
 import resource
@@ -18,6 +19,7 @@ TOOLS, LINE, TOWN = TOP / "tools", TOP / "examples" / "line", TOP / "examples" /
 PATIENCE = 120
 LONG = ("wait=7200", "delay=7200")  # no rider of a test expires, however slow the machine is
 OWN = 1_000_000  # the least number of a ride that a caller may give
+WITH_PACKAGE = {**os.environ, "PYTHONPATH": str(TOP / "python")}  # in which a changed desk imports the package of this clone
 
 
 def until(holds, what, patience=PATIENCE):
@@ -36,14 +38,14 @@ class Desk:
     port answers. With None it isn't waited for. The port is a free one; batches are sealed by calls alone, if `every` isn't
     given."""
 
-    def __init__(self, folder, *arguments, program=None, most_bytes=None, tool=TOOLS / "desk.py", waits_for="keeps its day"):
+    def __init__(self, folder, *arguments, program=None, most_bytes=None, tool=TOOLS / "desk.py", waits_for="keeps its day", **more):
         extra = ["port=0", *([f"program={program}"] if program else [])]
         if not {"demo", "every=0"} & set(arguments) and not pathlib.Path(folder, "day.json").exists():
             extra.append("every=0")
         extra = [word for word in extra if not any(it.startswith(word.split("=")[0] + "=") for it in arguments)]
         self.child = subprocess.Popen(
             [sys.executable, str(tool), *arguments, f"day={folder}", *extra],
-            stdin=subprocess.PIPE, stderr=subprocess.PIPE, text=True,
+            stdin=subprocess.PIPE, stderr=subprocess.PIPE, text=True, **more,
             preexec_fn=most_bytes and (lambda: resource.setrlimit(resource.RLIMIT_FSIZE, (most_bytes, most_bytes))))
         self.child.stdin.close()
         self.folder, self.said, self.token = pathlib.Path(folder), [], None

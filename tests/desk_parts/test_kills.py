@@ -13,7 +13,7 @@ import shutil
 import signal
 import time
 
-from desk_parts.shared import LONG, PATIENCE, TOP, TOWN, Desk, audited, folder_for_days, inputs, until
+from desk_parts.shared import LONG, PATIENCE, TOWN, WITH_PACKAGE, Desk, audited, folder_for_days, inputs, until
 
 SEED = int(os.environ.get("DESK_SEED", "67"))
 DAYS = 4  # desks that are killed side by side, each in a folder of its own
@@ -320,8 +320,6 @@ def test_a_day_whose_desk_was_killed_as_it_began_begins(desk, fails, audited, fo
 
 
 WRONG = """
-import sys
-sys.path.insert(0, {python!r})
 from ridepool.desk import command, dispatcher, folder
 from ridepool.report.reader import Entry
 {change}
@@ -348,9 +346,9 @@ def test_a_desk_that_answers_before_live_did_or_before_it_wrote_is_found(program
         with folder_for_days() as folder:
             folder.parent.mkdir(exist_ok=True)
             tool = folder.parent / "wrong.py"
-            tool.write_text(WRONG.format(python=str(TOP / "python"), change=change))
+            tool.write_text(WRONG.format(change=change))
             try:
-                killed_day(program, folder, [moment], SEED, PATIENCE, tool=tool)
+                killed_day(program, folder, [moment], SEED, PATIENCE, tool=tool, env=WITH_PACKAGE)
             except Lost:
                 continue
             raise AssertionError(f"nothing was lost by a desk that is killed {moment}:{change}")

@@ -10,7 +10,7 @@ import sys
 import time
 
 import pytest
-from desk_parts.shared import LINE, LONG, PATIENCE, TOP, inputs, until
+from desk_parts.shared import LINE, LONG, PATIENCE, WITH_PACKAGE, inputs, until
 
 
 @pytest.fixture
@@ -123,8 +123,7 @@ def test_a_dispatcher_that_does_not_answer_is_told(desk):
 
 
 DIES = """
-import asyncio, sys
-sys.path.insert(0, {place!r})
+import asyncio
 from ridepool.desk import command, dispatcher
 async def dies(self):
     await asyncio.sleep(1)
@@ -135,9 +134,8 @@ command.main()
 
 
 def test_a_background_task_that_dies_ends_the_desk(program, folder):
-    call = [sys.executable, "-c", DIES.format(place=str(TOP / "python")), *inputs(LINE), f"day={folder}", "port=0",
-            f"program={program}"]
-    done = subprocess.run(call, capture_output=True, text=True, timeout=5 * PATIENCE)
+    call = [sys.executable, "-c", DIES, *inputs(LINE), f"day={folder}", "port=0", f"program={program}"]
+    done = subprocess.run(call, capture_output=True, text=True, timeout=5 * PATIENCE, env=WITH_PACKAGE)
     assert done.returncode == 1 and done.stderr.endswith("RuntimeError: this task died\n"), done
     assert "Traceback" in done.stderr and (folder / "transcript").read_text().endswith("done 0\n"), done
 
