@@ -7,7 +7,7 @@ import subprocess
 import sys
 import tempfile
 from pathlib import Path
-from typing import Any, Iterable, List, Optional, Set, Tuple
+from typing import Any, Iterable, List, Optional, Set, Tuple, Union
 
 from skips import last_line
 
@@ -25,7 +25,7 @@ def python_with(modules: Iterable[str]) -> Optional[str]:
     return None
 
 
-def files_of(places: Iterable[str]) -> List[Path]:
+def files_of(places: Iterable[Union[str, Path]]) -> List[Path]:
     """The files of tests in folders, and files themselves."""
     paths = [TESTS / place for place in places]
     return [file for path in paths for file in (sorted(path.glob("test_*.py")) if path.is_dir() else [path])]
@@ -41,7 +41,7 @@ def names_of(test: str, file: str) -> Set[str]:
     return {it.removeprefix(start) for it in (test, file) for start in ("", "test_")}
 
 
-def untried(names: Set[str], places: Iterable[str]) -> int:
+def untried(names: Set[str], places: Iterable[Union[str, Path]]) -> int:
     """How many tests have one of the names, or all, where they can't be tried."""
     found = [(test, file.stem) for file in files_of(places) for test in re.findall(r"^def (test_\w+)", file.read_text(), re.M)]
     return sum(not names or bool(names_of(*it) & names) for it in found)
@@ -52,6 +52,12 @@ def parted(words: List[str]) -> Tuple[Set[str], List[str]]:
     start = next((number for number, word in enumerate(words) if word.startswith("-")), len(words))
     places = [*filter(is_place, words[:start])]
     return set(words[:start]).difference(places), [*places, *words[start:]]
+
+
+def why_of(report: Any) -> str:
+    """Why a test, or a file of tests, was skipped."""
+    why = report.longrepr[2] if isinstance(report.longrepr, tuple) else report.longrepr
+    return str(why).removeprefix("Skipped: ")
 
 
 class Count:
@@ -75,16 +81,18 @@ class Count:
             print(f"\nFAILED: {report.nodeid.split('/')[-1]}\n{report.longreprtext[-2000:]}")
         elif report.skipped:
             self.skipped += 1
-            why = report.longrepr[2] if isinstance(report.longrepr, tuple) else report.longrepr
-            print(f"\nskipped: {report.nodeid.split('/')[-1]}, since {str(why).removeprefix('Skipped: ')}")
+            print(f"\nskipped: {report.nodeid.split('/')[-1]}, since {why_of(report)}")
         elif report.when == "call":
             self.passed += 1
 
     def pytest_collectreport(self, report: Any) -> None:
-        """A file that can't be read as tests."""
+        """A file that can't be read as tests, or that is skipped as a whole."""
         if report.failed:
             self.failed += 1
             print(f"\nFAILED: {report.nodeid}\n{report.longreprtext[-2000:]}")
+        elif report.skipped:
+            self.skipped += untried(self.names, [TESTS.parent / report.nodeid])
+            print(f"\nskipped: {report.nodeid.split('/')[-1]}, since {why_of(report)}")
 
 
 def main(*places: str, needs: Iterable[str] = ()) -> int:

@@ -49,6 +49,7 @@ def seed(pytestconfig):
 def shim(program):
     """The library by which calls of the program fail."""
     found = Shim(program)
-    if found.why:
+    if found.is_missing:
         pytest.skip(found.why)
+    assert not found.why, found.why
     return found

@@ -11,12 +11,11 @@ from ridepool import words
 
 @pytest.fixture(scope="session", autouse=True)
 def can_be_opened(program):
-    """Skips all tests where a desk can't be opened."""
+    """Skips all tests where this Python lacks what a desk stands on; fails them where the program has no `live`."""
     if words.missing_modules(list(words.DESK_PACKAGES)) or not os.path.exists("/usr/share/javascript/leaflet/leaflet.js"):
         pytest.skip(f"the desk's packages are missing: {words.DESK_INSTALL}")
     found = subprocess.run([program, "live", "network=none"], capture_output=True, text=True)
-    if "words: missing" not in found.stderr:
-        pytest.skip(f"{program} has no word `live`")
+    assert "words: missing" in found.stderr, f"{program} has no word `live`: {found}"
 
 
 @pytest.fixture
