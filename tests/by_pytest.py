@@ -119,7 +119,7 @@ def tried(program: Path, words: List[str], places: Iterable[str]) -> int:
     count = Count(names)
     own = [] if any(map(is_place, given)) else [str(TESTS / it) for it in places]
     with tempfile.TemporaryDirectory(prefix="ridepool-tests-") as folder:
-        quiet = ["-q", "--no-header", "--no-summary", f"--basetemp={folder}/tests", f"--program={program}"]
+        quiet = ["-q", "--no-header", "--no-summary", f"--basetemp={folder}/run", f"--program={program}"]
         status = pytest.main([*quiet, *given, *own], plugins=[count])
     if count.unknown:
         print(f"no test has this name: {' '.join(sorted(count.unknown))}")
