@@ -1,5 +1,5 @@
 #!/usr/bin/env bash
-# Runs made workloads from their texts (made_texts.py) with proof=1, audits each report, and prints what both take and how
+# Runs made workloads from their texts (tests/made_texts.py) with proof=1, audits each report, and prints what both take and how
 # long the report is. The town's day, which vehicles were driven through, is audited as well, from its script and its report.
 # Use: bench/audit.sh [PROGRAM], from the top of the repository.
 set -u -o pipefail
@@ -19,7 +19,7 @@ audit() { # SEED SIDE VEHICLES RIDERS ROUNDS KEY=VALUE ..
   local folder
   folder=$(mktemp -d) || exit 1
   for name in network fleet script; do
-    python3 "$here/made_texts.py" "${@:1:5}" "$name" >"$folder/$name.csv" || exit 1
+    python3 "$here/../tests/made_texts.py" "${@:1:5}" "$name" >"$folder/$name.csv" || exit 1
   done
   echo "== $*"
   (cd "$folder" && judged "${@:6}") || { echo "failed: $folder"; exit 1; }

@@ -31,7 +31,7 @@ measure() {
 }
 for word in "$@"; do
     case $word in
-        square:*) python3 bench/made_texts.py 1 "${word#*:}" 1 0 0 network > "$work/network" ;;
+        square:*) python3 tests/made_texts.py 1 "${word#*:}" 1 0 0 network > "$work/network" ;;
         uneven:*) python3 bench/uneven_network.py 1 "${word#*:}" > "$work/network" ;;
         *) echo "no network: $word" >&2; exit 2 ;;
     esac

@@ -10,6 +10,7 @@ open and while one is solved; and the most memory that a long run took. SIZE is 
 import os
 import random
 import select
+import shutil
 import subprocess
 import sys
 import tempfile
@@ -17,9 +18,51 @@ import time
 from pathlib import Path
 
 TESTS = Path(__file__).resolve().parent.parent / "tests"
-sys.path.insert(0, str(TESTS))
-from live_parts.client import Client  # noqa: E402
-from live_parts.given import HEADERS, made_city, street  # noqa: E402
+HEADER = "round,lane,command,a,b,c,d\n"
+SIDE, VEHICLES, SEED = 30, 60, 5  # of the city whose batch takes a while
+
+
+def street(folder):
+    """Puts the files of five corners in a row and of one vehicle into the folder."""
+    for name in ("network", "fleet"):
+        shutil.copy(TESTS / "street" / f"{name}.csv", folder)
+
+
+def made_city(folder):
+    """Puts the files of a square network and its fleet into the folder. Gives how many nodes it has."""
+    for name in ("network", "fleet"):
+        sizes = map(str, (SEED, SIDE, VEHICLES, 0, 1))
+        with open(folder / f"{name}.csv", "wb") as file:
+            subprocess.run([sys.executable, TESTS / "made_texts.py", *sizes, name], stdout=file, check=True)
+    return SIDE * SIDE
+
+
+class Call:
+    """A call of `live` on the folder's files, its pipes in hand."""
+
+    def __init__(self, program, folder, *words, **more):
+        named = [f"network={folder}/network.csv", f"fleet={folder}/fleet.csv"]
+        self.process = subprocess.Popen([program, "live", *named, *words], stdin=subprocess.PIPE, **{"stdout": subprocess.PIPE, **more})
+
+    def send(self, text):
+        """Sends rows at once."""
+        self.process.stdin.write(text.encode())
+        self.process.stdin.flush()
+
+    def read_until(self, ending):
+        """Reads until what came ends so."""
+        output, came = self.process.stdout.fileno(), b""
+        while not came.endswith(ending):
+            select.select([output], [], [])
+            more = os.read(output, 1 << 16)
+            assert more, f"the call ended behind {came[-80:]!r}"
+            came = (came + more)[-1000:]
+
+    def end(self):
+        """Ends the input, and reads the rest."""
+        self.process.stdin.close()
+        self.process.stdout.read()
+        assert self.process.wait() == 0, self.process.returncode
 
 
 def reports(count, seal_every=0):
@@ -36,35 +79,30 @@ def reports(count, seal_every=0):
 def through_a_pipe(program, folder, rows):
     """Seconds and the most kilobytes of a run whose rows are written as fast as they are taken."""
     street(folder)
-    call = subprocess.Popen([program, "live", f"network={folder}/network.csv", f"fleet={folder}/fleet.csv"], stdin=subprocess.PIPE, stdout=subprocess.DEVNULL)
+    call = Call(program, folder, stdout=subprocess.DEVNULL)
     start = time.monotonic()
-    call.stdin.write((HEADERS[0] + "\n").encode())
-    waiting = []
+    waiting = [HEADER]
     for row in rows:
         waiting.append(row)
         if len(waiting) == 1000:
-            call.stdin.write("".join(waiting).encode())
+            call.send("".join(waiting))
             waiting = []
-    call.stdin.write("".join(waiting).encode())
-    call.stdin.close()
-    _, status, used = os.wait4(call.pid, 0)
+    call.send("".join(waiting))
+    call.process.stdin.close()
+    _, status, used = os.wait4(call.process.pid, 0)
     assert status == 0, status
     return time.monotonic() - start, used.ru_maxrss
 
 
-def answer_seconds(client, rows):
-    """Seconds from each row to its answer's line, in order. The lines are counted and not read, so that little of the
-    time is the client's own."""
-    times, output = [], client.call.stdout.fileno()
+def answer_seconds(call, rows):
+    """Seconds from each row to its answer's line, in order. The lines aren't read, so that little of the time is the client's
+    own."""
+    times = []
     for row in rows:
         start = time.monotonic()
-        client.send(row.rstrip("\n") + "\n")
-        came = b""
-        while not came.endswith(b"\n"):
-            select.select([output], [], [])
-            came = os.read(output, 1 << 16)
+        call.send(row)
+        call.read_until(b"\n")
         times.append(time.monotonic() - start)
-        client.out += came
     return sorted(times)
 
 
@@ -76,22 +114,23 @@ def shown(name, times):
 
 def while_idle(program, folder, count):
     street(folder)
-    client = Client(program, folder)
-    client.send(HEADERS[0] + "\n")
-    client.ask("0,0,cancel,1,,,", 60)
-    shown("while no batch is open", answer_seconds(client, reports(count)))
-    client.end()
+    call = Call(program, folder)
+    call.send(HEADER + "0,0,cancel,1,,,\n")
+    call.read_until(b" 0 cancel 1 refused unknown-rider\n")
+    shown("while no batch is open", answer_seconds(call, reports(count)))
+    call.end()
 
 
 def while_solving(program, folder, count):
     nodes, rng = made_city(folder), random.Random(1)
-    client = Client(program, folder, "wait=600", "delay=600", "trip=4", "budget=20", "pairs=400000", "workers=4")
-    client.send(HEADERS[0] + "\n")
-    client.send("".join(f"0,0,submit,{rider},{rng.randint(1, nodes // 2)},{rng.randint(nodes // 2 + 1, nodes)},0\n" for rider in range(1, 260)))
-    client.ask("0,0,seal,1,,,", 60)
-    times = answer_seconds(client, (f"0,{1 + number % 15},cancel,{1000 + number},,," for number in range(count)))
+    call = Call(program, folder, "wait=600", "delay=600", "trip=4", "budget=20", "pairs=400000", "workers=4")
+    call.send(HEADER)
+    call.send("".join(f"0,0,submit,{rider},{rng.randint(1, nodes // 2)},{rng.randint(nodes // 2 + 1, nodes)},0\n" for rider in range(1, 260)))
+    call.send("0,0,seal,1,,,\n")
+    call.read_until(b" 0 seal 1 sealed 1\n")
+    times = answer_seconds(call, (f"0,{1 + number % 15},cancel,{1000 + number},,,\n" for number in range(count)))
     shown("while a batch is solved", times)
-    client.end()
+    call.end()
 
 
 def main(program, size=1.0):

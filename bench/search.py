@@ -2,7 +2,7 @@
 
     bench/search.py [native=PROGRAM] [ridepool=PROGRAM] [seed=N] [repeat=N] [NAME ..]
 
-Makes each workload's files by made_texts.py, runs ridepool on them (the proved program, by release/find, unless one is
+Makes each workload's files by tests/made_texts.py, runs ridepool on them (the proved program, by release/find, unless one is
 named), and prints a line for each batch: rows, bound, cost, gap in percent of the cost, nodes; then the user seconds of the
 whole run, the least of the repeats. Without a NAME it takes all workloads of the table below; `seed` takes another seed for
 those of seed 7.
@@ -53,7 +53,7 @@ def timed(command, folder):
 def make_files(shape, folder):
     sizes = [str(shape[word]) for word in SHAPE]
     for text in ("network", "fleet", "script"):
-        maker = [sys.executable, os.path.join(HERE, "made_texts.py"), *sizes, text]
+        maker = [sys.executable, os.path.join(HERE, "..", "tests", "made_texts.py"), *sizes, text]
         with open(os.path.join(folder, text), "wb") as file:
             subprocess.run(maker, stdout=file, check=True)
 

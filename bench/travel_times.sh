@@ -16,7 +16,7 @@ export -f ours
 seconds_of() { { time taskset -c "$1" bash -c '"$@"' _ "$2" "$work/network" "$points" "$3" > "$4"; } 2>&1; }
 least_and_cells() { awk '$2 == "microseconds," { if (!least || $1 < least) least = $1; cells = $4 } END { print least, cells }' "$1"; }
 for side in 20 100 300; do
-    python3 bench/made_texts.py 1 "$side" 1 0 0 network > "$work/network"
+    python3 tests/made_texts.py 1 "$side" 1 0 0 network > "$work/network"
     for points in 50 500 2000; do
         for processors in 0 0-3; do
             ours_all=$(seconds_of "$processors" ours 3 "$work/ours")

@@ -18,8 +18,6 @@ import sys
 import tempfile
 from pathlib import Path
 
-sys.path.append(str(Path(__file__).resolve().parent.parent / "bench"))
-
 from draws import Crowd, Draw, DrivenDay
 from inputs import Run
 from judge import Wrong, judge

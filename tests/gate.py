@@ -23,7 +23,7 @@ TOP = Path(__file__).resolve().parent.parent
 TOOLS = "bash cat dirname env grep mktemp readlink rm setsid sleep tail tee timeout".split()
 BEGUN = re.findall(r"^begin (\w+) ?(.*)$", (TOP / "check").read_text(), re.M)
 PARTS = [name for name, _ in BEGUN]
-BY_HAND = {"edits", "make_day", "make_desk_pictures", "make_sumo_day", "walked", "wrong_program"}
+BY_HAND = {"edits", "made_texts", "make_day", "make_desk_pictures", "make_sumo_day", "walked", "wrong_program"}
 LOOKS = ("trail", "rooms", "parameters", "uncalled", "maps")  # the tools that look at the sources
 # What ./check counts beside the parts: the release by checksums and the looks. The gate holds the bytes, too.
 OWN, OWN_OF_GATE = 1 + len(LOOKS), 2 + len(LOOKS)
@@ -115,6 +115,21 @@ def every_script_is_a_part(_):
     """Each script of tests/ is begun by ./check, but for those that make inputs or are called by hand."""
     scripts = {path.stem for path in (TOP / "tests").glob("*.py") if "__main__" in path.read_text()}
     demand(scripts - BY_HAND == set(PARTS), "these are no parts:", scripts - BY_HAND - set(PARTS), "these are no scripts:", set(PARTS) - scripts)
+
+
+def called_by(door, place):
+    """The files of tests in a place that ./check has a door call: all, or those that it names."""
+    files = sorted(place.glob("test_*.py")) if place.is_dir() else [place]
+    for words in (words.split() for name, words in BEGUN if name == door):
+        names = [word for word in words if not word.startswith("-")]
+        yield from [file for file in files if not names or file.stem.removeprefix("test_") in names]
+
+
+def every_file_of_tests_is_called(_):
+    """Each file of tests by pytest is called by ./check once."""
+    doors = {path.stem: re.search(r'main\("([^"]+)"', path.read_text()) for path in (TOP / "tests").glob("*.py")}
+    called = [file for door, found in doors.items() if found for file in called_by(door, TOP / "tests" / found[1])]
+    demand(sorted(called) == sorted((TOP / "tests").glob("*/test_*.py")), "these files of tests are called:", *sorted(called))
 
 
 def all_is_well(fakes):
@@ -235,8 +250,8 @@ def words(fakes):
     fakes.demand((0, 1), status=1, said="there is no python3")
 
 
-TRIED = [every_script_is_a_part, all_is_well, parts_that_fail, skips_are_counted, looks_at_the_sources, a_release_of_other_sources, the_logic, the_gate]
-TRIED += [the_gate_holds_the_release, packages_are_installed, packages_are_named, words]
+TRIED = [every_script_is_a_part, every_file_of_tests_is_called, all_is_well, parts_that_fail, skips_are_counted, looks_at_the_sources]
+TRIED += [a_release_of_other_sources, the_logic, the_gate, the_gate_holds_the_release, packages_are_installed, packages_are_named, words]
 
 
 def fault(tried):

@@ -9,8 +9,7 @@ folder gets the three files and `words`, the words of a call.
 import sys
 from pathlib import Path
 
-sys.path.append(str(Path(__file__).resolve().parent.parent / "bench"))
-from made_texts import texts  # noqa: E402
+from made_texts import texts
 
 DEFAULTS = [1, 40, 500, 250, 20]
 

@@ -14,15 +14,12 @@ import time
 sys.dont_write_bytecode = True
 
 from desk_parts import shared  # noqa: E402
-from desk_parts.page import fits, opened, page, text_of  # noqa: E402
-from desk_parts.phone import HIGH, WIDE  # noqa: E402
+from desk_parts.browser import HIGH, WIDE, fits, opened, page, text_of  # noqa: E402
 
 STANDS, FROM = 6, 300  # the vehicle whose driver stands still from this second on, with passengers
 RESTS, DRIVES = 10, (2, 3, 4, 5, 7, 8, 9)
 AHEAD = 45  # seconds at least to the pickup that is shown
 DEMO = f"""
-import sys
-sys.path.insert(0, {str(shared.TOP / "python")!r})
 from ridepool.desk import command, contacts, demo
 
 NAMES = "Ada Ben Carla David Eva Franz Greta Hugo Ida Jonas Karin Leo Maria Nora Otto Paula Rosa Simon Tom Vera".split()
@@ -102,12 +99,12 @@ def keep_page(it, folder):
 
 def main():
     """Makes them."""
-    shared.PROGRAM = str(pathlib.Path(sys.argv[1]).resolve())
+    program = str(pathlib.Path(sys.argv[1]).resolve())
     folder = pathlib.Path(sys.argv[2]) if len(sys.argv) > 2 else shared.TOP / "docs" / "pictures"
     with tempfile.TemporaryDirectory() as place:
         tool = pathlib.Path(place) / "demo.py"
         tool.write_text(DEMO)
-        with shared.desk("demo", "speed=10", tool=tool, folder=pathlib.Path(place) / "day") as it:
+        with shared.desk("demo", "speed=10", program=program, tool=tool, env=shared.WITH_PACKAGE, folder=pathlib.Path(place) / "day") as it:
             it.gives("POST", f"/vehicles/{RESTS}/break")
             shared.until(lambda: it.second() > FROM, "the driver stands still", 10 * shared.PATIENCE)
             shared.until(lambda: has_trouble(it), "trouble", 10 * shared.PATIENCE)

@@ -1,54 +1,11 @@
 #!/usr/bin/env python3
-"""Tests of tools/maps.py on a small crate. Status 0 where all pass; the last line is `N passed, M failed`."""
-
-import sys
-from pathlib import Path
-
-from tools_parts.shared import TOOLS, run_tests
-
-sys.path.insert(0, str(TOOLS))
-
-from maps import HEAD, map_of  # noqa: E402
-
-ANSWERS = """use Rattle.std.proofs.Common.{arith}
-use Rattle.lower.proofs.Common.{Even}
-use Rattle.lower.proofs.number.HalfLemmas.{half, twice}
-use Rattle.upper.proofs.OtherLemmas.{other}
-use Rattle.lower.proofs.number.halve.Goals as goal
-
-pub returns-in-Ok-clause-even : goal.returns-in-Ok-clause-even
-returns-in-Ok-clause-even c = half c.args (other c.ensures)
-
-pub returns-in-Err-clause-small : goal.returns-in-Err-clause-small
-returns-in-Err-clause-small c = omega (arith, c.ensures)
-
-pub loop-preserved : goal.loop-preserved
-loop-preserved c = (twice c.half, half)
+"""Tests of tools/maps.py on a small crate, by pytest. Use: maps.py PROGRAM [NAME ..] [WORDS OF PYTEST ..]. The tests stand in
+looks_parts/, and no program is tried. The last line is `N passed, M failed`.
 """
 
+import sys
 
-def lower(folder: Path, answers: str) -> Path:
-    """A crate with these answers for one function."""
-    path = Path(folder, "lower", "proofs", "number", "halve", "Answers.antt")
-    path.parent.mkdir(parents=True)
-    path.write_text(answers)
-    return Path(folder, "lower")
-
-
-def test_a_row_for_each_clause(folder: Path) -> None:
-    """Lemmas of the crate are named, by their file, and neither those of others nor what Common passes on."""
-    rows = map_of(lower(folder, ANSWERS)).removeprefix(HEAD).splitlines()
-    assert rows == [
-        "| `number::halve` | `even` | `number/HalfLemmas` |",
-        "| `number::halve` | its one clause, or a step | `number/HalfLemmas` |",
-    ], rows
-
-
-def test_no_lemma_no_map(folder: Path) -> None:
-    """A crate whose answers cite no lemmas of its own has no map."""
-    text = "use Rattle.lower.proofs.number.halve.Goals as goal\n\npub returns : goal.returns\nreturns c = search rules\n"
-    assert map_of(lower(folder, text)) == ""
-
+from by_pytest import main
 
 if __name__ == "__main__":
-    sys.exit(run_tests(globals()))
+    sys.exit(main("looks_parts/test_maps.py"))

@@ -5,6 +5,6 @@ class Skipped(Exception):
     """Why a test can't be tried here."""
 
 
-def last_line(passed, failed, skipped=0):
+def last_line(passed: int, failed: int, skipped: int = 0) -> str:
     """The last line of a script of tests."""
     return f"{passed} passed, {failed} failed" + (f", {skipped} skipped" if skipped else "")

@@ -5,7 +5,7 @@ import pathlib
 import sys
 
 
-def open_to(module):
+def open_to(module: str) -> None:
     """Calls a command of the package that lies in this clone."""
     sys.path.insert(0, str(pathlib.Path(__file__).resolve().parent.parent / "python"))
     importlib.import_module(module).main()

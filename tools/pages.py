@@ -5,9 +5,12 @@
     tools/pages.py PROGRAM --write    writes them anew
 """
 
+from __future__ import annotations
+
 import re
 import subprocess
 import sys
+from collections.abc import Iterator
 from pathlib import Path
 
 TOP = Path(__file__).resolve().parent.parent
@@ -30,13 +33,13 @@ VALUES = {"0|1": ("0", "1"), "WAY": ("rows", "labels")}
 class Help:
     """The program's help: its usage lines, what it says of the commands, and its groups of words."""
 
-    def __init__(self, text):
+    def __init__(self, text: str) -> None:
         head, _, rest = text.partition("\n\n")
         self.usage = [line.removeprefix("usage:").strip() for line in head.split("\n")]
         self.commands = [line.split()[1] for line in self.usage]
         about, _, rest = rest.partition("\nFor ")
         self.about = [" ".join(part.split()) for part in re.split(r"\n(?=`)|\n\n", about) if part.strip()]
-        self.groups = []
+        self.groups: list[tuple[str, list[str], list[tuple[str, str]]]] = []
         for block in ("For " + rest).split("\n\n"):
             lines = block.split("\n")
             if lines[0].startswith("For "):
@@ -46,17 +49,18 @@ class Help:
                 self.groups.append(("Pages", [], [self.word(line) for line in lines]))
 
     @staticmethod
-    def word(line):
+    def word(line: str) -> tuple[str, str]:
         """A word of the help: its form and what it means."""
-        form, meaning = re.match(r"  (\S+(?:, \S+)*)\s{2,}(.*)", line).groups()
-        return form, meaning
+        found = re.match(r"  (\S+(?:, \S+)*)\s{2,}(.*)", line)
+        assert found, line
+        return found[1], found[2]
 
-    def words_of(self, command):
+    def words_of(self, command: str) -> list[tuple[str, str]]:
         """The words with a value that a command takes, in the help's order."""
         return [word for _, names, words in self.groups if command in names for word in words]
 
 
-def escaped(text):
+def escaped(text: str) -> str:
     """A line of text for roff: bold for code, the names of links alone, no line that roff would take for a command."""
     text = text.replace("\\", "\\e")
     text = re.sub(r"\[([^\]]*)\]\([^)]*\)", r"\1", text)
@@ -65,11 +69,11 @@ def escaped(text):
     return re.sub(r"^([.'])", r"\\&\1", text)
 
 
-def cells_of(row):
+def cells_of(row: str) -> list[str]:
     return [cell.strip() for cell in re.split(r"(?<!\\)\|", row.strip().strip("|"))]
 
 
-def table(rows):
+def table(rows: list[str]) -> list[str]:
     """A table: of two columns a list of terms, of more a table of tbl."""
     head, *body = (cells_of(row) for row in rows if not re.fullmatch(r"[|\s:-]+", row))
     if len(head) == 2:
@@ -80,9 +84,10 @@ def table(rows):
     return lines + [".TE"]
 
 
-def parts_of(text):
+def parts_of(text: str) -> Iterator[list[str]]:
     """The parts of a text of Markdown: what stands between empty lines, and each block of code whole."""
-    parts, is_code = [[]], False
+    parts: list[list[str]] = [[]]
+    is_code = False
     for row in text.split("\n"):
         if row.startswith("```"):
             if not is_code:
@@ -95,9 +100,9 @@ def parts_of(text):
     return filter(None, parts)
 
 
-def roff_of(text):
+def roff_of(text: str) -> list[str]:
     """Markdown's paragraphs, lists, tables, headings and code as roff."""
-    lines = []
+    lines: list[str] = []
     for rows in parts_of(text):
         part = rows[0]
         if part.startswith("```"):
@@ -115,11 +120,11 @@ def roff_of(text):
     return lines
 
 
-def escaped_code(row):
+def escaped_code(row: str) -> str:
     return re.sub(r"^([.'])", r"\\&\1", row.replace("\\", "\\e").replace("-", "\\-"))
 
 
-def section(name):
+def section(name: str) -> str:
     """The text of a section of FORMATS.md."""
     found = re.search(rf"^## {re.escape(name)}\n(.*?)(?=^## |\Z)", FORMATS.read_text(), re.M | re.S)
     if not found:
@@ -127,7 +132,7 @@ def section(name):
     return found[1]
 
 
-def manual(pages, version):
+def manual(pages: Help, version: str) -> str:
     """The manual page."""
     lines = [
         "'\\\" t",
@@ -162,9 +167,10 @@ def manual(pages, version):
     return "\n".join(lines) + "\n"
 
 
-def bash(pages):
+def bash(pages: Help) -> str:
     """The completion of bash."""
-    cases, values = [], []
+    cases: list[str] = []
+    values: list[str] = []
     for command in pages.commands:
         names = " ".join(form.split("=")[0] for form, _ in pages.words_of(command))
         cases.append(f'    {command}) keys="{names}" ;;')
@@ -205,7 +211,7 @@ def bash(pages):
     )
 
 
-def zsh(pages):
+def zsh(pages: Help) -> str:
     """The completion of zsh."""
     lines = ["#compdef ridepool", "# Completion of ridepool for zsh. Made by tools/pages.py.", "local -a keys"]
     lines += ["if ((CURRENT == 2)); then", f"  compadd -- {' '.join(pages.commands)} --help --version", "  return", "fi"]
@@ -222,7 +228,7 @@ def zsh(pages):
     return "\n".join([*lines, "esac", "_describe word keys -S =", ""])
 
 
-def main():
+def main() -> int:
     if len(sys.argv) < 2 or sys.argv[2:] not in ([], ["--write"]):
         raise SystemExit(__doc__)
     said = [subprocess.run([sys.argv[1], word], capture_output=True, text=True, check=True).stdout for word in ("--help", "--version")]

@@ -24,6 +24,8 @@ crate; a file of proofs/ that imports more than proofs/lemmas/ of another crate;
 definitions or types on a way; a struct or an enum whose name several crates offer, or a crate and a definition on a way;
 one without a line of comment of its own; lists of docs/proof/DEFINITIONS.md that are not the ways'. tools/trails/left.py lists the faults that stand for now; each is printed with its reason.
 """
+from __future__ import annotations
+
 import contextlib
 import io
 import re
@@ -32,13 +34,14 @@ import sys
 import tarfile
 import tempfile
 from collections import defaultdict, deque
+from collections.abc import Iterable, Iterator
 from pathlib import Path
 
 from trails.chapters import CHAPTERS, chapter_of, in_order
 from trails.definitions import read_definitions
 from trails.left import FAULTS, SENTENCES
 from trails.sources import Sources, read_roots
-from trails.words import Book, uses_of
+from trails.words import Book, Piece, uses_of
 
 TOP = Path(__file__).resolve().parent.parent
 CRATES = TOP / "crates"
@@ -52,7 +55,7 @@ BEGIN, END = "<!-- {}: begin -->", "<!-- {}: end -->"
 class Trail:
     """The two ways through the crates of a folder."""
 
-    def __init__(self, crates):
+    def __init__(self, crates: Path) -> None:
         pieces, passed_on = read_definitions(crates)
         sources = self.sources = Sources(crates)
         pieces.update(sources.pieces())
@@ -62,17 +65,17 @@ class Trail:
         self.every = self.walk([piece for named in self.roots.values() for piece in named])
         self.beside = [piece for piece in self.every if piece not in self.headline]
 
-    def of_command(self, command):
+    def of_command(self, command: str) -> dict[Piece, int]:
         """The way from the clause of a command."""
         return self.walk([piece for piece in self.every if piece.name == COMMANDS[command]])
 
-    def uses(self, piece):
+    def uses(self, piece: Piece) -> list[Piece]:
         """What a definition or a type names."""
         text, names = piece.named
         kept = self.book.named_in(piece.kept, names)
         return self.book.named_in(text, names, piece.module) + [named for named in kept if not named.is_work]
 
-    def walk(self, starts):
+    def walk(self, starts: Iterable[Piece]) -> dict[Piece, int]:
         """The depth of each definition and type that is reached, in the order in which they are met."""
         depth = dict.fromkeys(starts, 1)
         queue = deque(depth)
@@ -84,17 +87,17 @@ class Trail:
                     queue.append(named)
         return depth
 
-    def rests_on(self, piece):
+    def rests_on(self, piece: Piece) -> str:
         """Which function, type or definition names a piece first, on the way of all."""
         for (_, name), named in self.roots.items():
             if piece in named:
                 return name
         return next(other.name for other in self.every if piece in self.uses(other))
 
-    def files(self, way):
+    def files(self, way: Iterable[Piece]) -> Iterator[tuple[int, list[tuple[str, list[Piece]]]]]:
         """The files of a way in the order of reading, each with its definitions and types in their order."""
         chosen = set(way)
-        held = defaultdict(list)
+        held: defaultdict[str, list[Piece]] = defaultdict(list)
         for piece in self.book.pieces.values():
             if piece in chosen:
                 held[piece.place()].append(piece)
@@ -103,32 +106,32 @@ class Trail:
             order = in_order({place: named for place, named in uses.items() if chapter_of(place) == at})
             yield at, [(place, held[place]) for place in order]
 
-    def early(self):
+    def early(self) -> list[Piece]:
         """The definitions of the headline's way that name one of a later chapter."""
         return [piece for piece in self.headline
                 if any(chapter_of(named.place()) > chapter_of(piece.place()) for named in self.uses(piece))]
 
 
-def figures(way):
+def figures(way: dict[Piece, int]) -> str:
     definitions, types = ([piece for piece in way if piece.is_type == is_type] for is_type in (False, True))
     return (f"{len(definitions)} definitions in {lines_of(definitions)} lines and {len(types)} types in {lines_of(types)}, "
             f"{len({piece.path for piece in way})} files, {len({piece.crate for piece in way})} crates, "
             f"{max(way.values(), default=0)} deep")
 
 
-def lines_of(pieces):
+def lines_of(pieces: Iterable[Piece]) -> int:
     return sum(len(piece.lines) for piece in pieces)
 
 
-def sentence_of(piece):
+def sentence_of(piece: Piece) -> str:
     return SENTENCES.get((piece.place(), piece.name), piece.comment)
 
 
-def listed(pieces):
+def listed(pieces: Iterable[Piece]) -> str:
     return "".join(f"- {'type ' if piece.is_type else ''}`{piece.name}`: {sentence_of(piece)}\n" for piece in pieces)
 
 
-def list_of(trail, way, has_chapters):
+def list_of(trail: Trail, way: Iterable[Piece], has_chapters: bool) -> str:
     """The list of a way: chapters, in each its files, and in each file its definitions and types."""
     out = []
     for at, files in trail.files(way):
@@ -139,7 +142,7 @@ def list_of(trail, way, has_chapters):
     return "".join(out) + "\n"
 
 
-def imports_of(crates, kind):
+def imports_of(crates: Path, kind: str) -> Iterator[tuple[Path, str, str, list[str]]]:
     """The files of a folder of all crates: path, crate, and each module that they import, in its parts."""
     for path in sorted(crates.glob(f"*/{kind}")):
         if "declared" not in path.parts:
@@ -147,11 +150,11 @@ def imports_of(crates, kind):
                 yield path, path.relative_to(crates).parts[0], used, used.split(".")
 
 
-def faults_of_files(crates):
+def faults_of_files(crates: Path) -> list[str]:
     """The files that import what they may not."""
     found = []
     for path, _, used, parts in imports_of(crates, "specs/**/*.antt"):
-        hidden = {"work"} if "lemmas" in path.parts else set() if "work" in path.parts else {"lemmas", "work"}
+        hidden: set[str] = {"work"} if "lemmas" in path.parts else set() if "work" in path.parts else {"lemmas", "work"}
         if hidden & set(parts[2:3]) or "proofs" in parts:
             found.append((path, used))
     for path, crate, used, parts in imports_of(crates, "proofs/**/*.antt"):
@@ -163,9 +166,10 @@ def faults_of_files(crates):
     return [f"{path.relative_to(TOP)} imports {used}" for path, used in found]
 
 
-def faults_of_way(trail):
+def faults_of_way(trail: Trail) -> list[str]:
     """What is wrong with the definitions and types on the way of all."""
-    found, by_name = [], defaultdict(set)
+    found: list[str] = []
+    by_name: defaultdict[str, set[str]] = defaultdict(set)
     for piece in trail.every:
         by_name[piece.name].add(piece.place())
         if piece.is_work:
@@ -180,9 +184,9 @@ def faults_of_way(trail):
                             for (place, name), sentence in SENTENCES.items() if said.get((place, name), sentence) == sentence]
 
 
-def faults_of_types(trail):
+def faults_of_types(trail: Trail) -> list[str]:
     """The types of one name that several crates offer, or that are named as a definition on a way."""
-    by_name = defaultdict(set)
+    by_name: defaultdict[str, set[str]] = defaultdict(set)
     for piece in trail.sources.offered_types():
         by_name[piece.name].add(piece.place())
     for piece in trail.every:
@@ -192,14 +196,14 @@ def faults_of_types(trail):
             for name, places in sorted(by_name.items()) if len(places) > 1]
 
 
-def with_list(text, name, body):
+def with_list(text: str, name: str, body: str) -> str:
     begin, end = BEGIN.format(name), END.format(name)
     if begin not in text or end not in text:
         raise SystemExit(f"docs/proof/DEFINITIONS.md lacks the marks of the list {name}")
     return text[: text.index(begin) + len(begin)] + "\n" + body + text[text.index(end):]
 
 
-def hold_lists(trail, is_written):
+def hold_lists(trail: Trail, is_written: bool) -> list[str]:
     """Whether docs/proof/DEFINITIONS.md has the lists of the ways; writes them where it should."""
     text = BOOK.read_text()
     wanted = with_list(text, "headline", list_of(trail, trail.headline, True))
@@ -211,7 +215,7 @@ def hold_lists(trail, is_written):
     return []
 
 
-def say_faults(faults):
+def say_faults(faults: list[str]) -> int:
     """Prints the faults, and those that stand for now. Gives how many are left."""
     for fault in faults:
         if fault in FAULTS:
@@ -223,7 +227,7 @@ def say_faults(faults):
 
 
 @contextlib.contextmanager
-def crates_at(commit):
+def crates_at(commit: str) -> Iterator[Path]:
     """The folder of the crates at a commit."""
     archive = subprocess.run(["git", "archive", commit, "crates"], cwd=TOP, check=True, stdout=subprocess.PIPE).stdout
     with tempfile.TemporaryDirectory() as folder:
@@ -231,7 +235,7 @@ def crates_at(commit):
         yield Path(folder) / "crates"
 
 
-def say_what_stood(commit):
+def say_what_stood(commit: str) -> None:
     """What became of the definitions on the headline's way at a commit."""
     with crates_at(commit) as folder:
         then = [piece for piece in Trail(folder).headline if not piece.is_type]
@@ -241,14 +245,14 @@ def say_what_stood(commit):
     print(f"trail: at {commit} {len(then)} definitions, {lines_of(then)} lines; of these stand {len(now)}, in {lines_of(now)} lines")
 
 
-def say_command(trail, command):
+def say_command(trail: Trail, command: str) -> None:
     """What the clause of a command rests on."""
     way = trail.of_command(command)
     print(list_of(trail, way, True).strip())
     print(f"\ntrail: from the clause of {command} {figures(way)}")
 
 
-def say_figures(crates):
+def say_figures(crates: Path) -> None:
     """How large the crates are."""
     kinds = {"code": "src/**/*.rt", "definitions": "specs/**/*.antt", "proofs": "proofs/**/*.antt"}
     texts = {name: [path.read_text() for path in crates.glob(f"*/{kind}")] for name, kind in kinds.items()}
@@ -257,16 +261,19 @@ def say_figures(crates):
     print(f"trail: lines: {lines}; {functions:,} functions in {sum(1 for _ in crates.glob('*/src'))} crates")
 
 
-def main():
+def main() -> int:
     if "--stood" in sys.argv:
-        return say_what_stood(sys.argv[sys.argv.index("--stood") + 1])
+        say_what_stood(sys.argv[sys.argv.index("--stood") + 1])
+        return 0
     if "--figures" in sys.argv:
         commit = sys.argv[sys.argv.index("--figures") + 1:]
         with crates_at(commit[0]) if commit else contextlib.nullcontext(CRATES) as crates:
-            return say_figures(crates)
+            say_figures(crates)
+        return 0
     trail = Trail(CRATES)
     if "--from" in sys.argv:
-        return say_command(trail, sys.argv[sys.argv.index("--from") + 1])
+        say_command(trail, sys.argv[sys.argv.index("--from") + 1])
+        return 0
     if "--list" in sys.argv:
         for piece, depth in {**trail.every, **trail.headline}.items():
             mark = "headline" if piece in trail.headline else "beside"

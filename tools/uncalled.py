@@ -64,7 +64,8 @@ def owner_at(text: str, place: int) -> str | None:
             break
         if place < end_of(text, found.end() - 1):
             head = re.sub(r"<[^<>]*(?:<[^<>]*(?:<[^<>]*>[^<>]*)*>[^<>]*)*>", "", found[0]).rstrip("{ \n")
-            return re.findall(r"\w+", head.split(" for ")[-1].split(" where ")[0])[-1]
+            words: list[str] = re.findall(r"\w+", head.split(" for ")[-1].split(" where ")[0])
+            return words[-1]
     return None
 
 

@@ -1,8 +1,9 @@
-"""What the desk's tests share: the list of them, a started desk, folders for days, the audit of a kept day."""
+"""What the tests of the desk share: a started desk, folders for days, the audit of a kept day."""
 
 import contextlib
 import http.client
 import json
+import os
 import pathlib
 import re
 import resource
@@ -15,17 +16,10 @@ import time
 
 TOP = pathlib.Path(__file__).resolve().parent.parent.parent
 TOOLS, LINE, TOWN = TOP / "tools", TOP / "examples" / "line", TOP / "examples" / "town"
-PROGRAM = None  # desk.py sets it before the first test; other modules read it as shared.PROGRAM
 PATIENCE = 120
 LONG = ("wait=7200", "delay=7200")  # no rider of a test expires, however slow the machine is
 OWN = 1_000_000  # the least number of a ride that a caller may give
-TESTS = []
-
-
-def test(run):
-    """Lists a test."""
-    TESTS.append(run)
-    return run
+WITH_PACKAGE = {**os.environ, "PYTHONPATH": str(TOP / "python")}  # in which a changed desk imports the package of this clone
 
 
 def until(holds, what, patience=PATIENCE):
@@ -44,14 +38,14 @@ class Desk:
     port answers. With None it isn't waited for. The port is a free one; batches are sealed by calls alone, if `every` isn't
     given."""
 
-    def __init__(self, folder, *arguments, most_bytes=None, tool=TOOLS / "desk.py", program=True, waits_for="keeps its day"):
-        extra = ["port=0", *([f"program={PROGRAM}"] if program else [])]
+    def __init__(self, folder, *arguments, program=None, most_bytes=None, tool=TOOLS / "desk.py", waits_for="keeps its day", **more):
+        extra = ["port=0", *([f"program={program}"] if program else [])]
         if not {"demo", "every=0"} & set(arguments) and not pathlib.Path(folder, "day.json").exists():
             extra.append("every=0")
         extra = [word for word in extra if not any(it.startswith(word.split("=")[0] + "=") for it in arguments)]
         self.child = subprocess.Popen(
             [sys.executable, str(tool), *arguments, f"day={folder}", *extra],
-            stdin=subprocess.PIPE, stderr=subprocess.PIPE, text=True,
+            stdin=subprocess.PIPE, stderr=subprocess.PIPE, text=True, **more,
             preexec_fn=most_bytes and (lambda: resource.setrlimit(resource.RLIMIT_FSIZE, (most_bytes, most_bytes))))
         self.child.stdin.close()
         self.folder, self.said, self.token = pathlib.Path(folder), [], None
@@ -149,12 +143,12 @@ exec {program} "$@"
 
 
 @contextlib.contextmanager
-def held_desk(folder):
+def held_desk(folder, program):
     """A desk that goes on with the day in a folder, whose program waits until it is let go. Gives the desk, whose port answers,
     and the call that lets the program go."""
     with tempfile.TemporaryDirectory(prefix="desk-test-") as place:
         held = pathlib.Path(place) / "held"
-        held.write_text(HELD.format(folder=place, program=PROGRAM))
+        held.write_text(HELD.format(folder=place, program=program))
         held.chmod(0o755)
         it = Desk(folder, f"program={held}", waits_for="answers")
         try:
@@ -190,9 +184,9 @@ def fails(text, *arguments, folder=None, **more):
             shutil.rmtree(place, ignore_errors=True)
 
 
-def audited(folder, batches):
+def audited(program, folder, batches):
     """The kept day must be accepted by `audit`."""
     files = [f"network={folder}/network.csv", f"fleet={folder}/fleet.csv", f"script={folder}/rows.csv"]
-    found = subprocess.run([PROGRAM, "audit", *files, f"report={folder}/transcript"], capture_output=True, text=True)
+    found = subprocess.run([program, "audit", *files, f"report={folder}/transcript"], capture_output=True, text=True)
     assert found.returncode == 0 and found.stdout.startswith("audit ok entries "), (found.stdout, found.stderr)
     assert found.stdout.endswith(f"batches {batches}\n"), (found.stdout, batches)

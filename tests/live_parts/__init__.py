@@ -1,1 +1,1 @@
-"""The parts of live.py: the client and its judge, what is given to `live`, and the tests by what they try."""
+"""The tests of live.py: the client and its judge, what is given to `live`, and the tests by what they try."""

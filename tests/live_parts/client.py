@@ -1,5 +1,6 @@
 """A client of `ridepool live`, and the judge of what it gets."""
 
+import contextlib
 import os
 import select
 import subprocess
@@ -8,16 +9,6 @@ import time
 from inputs import Run
 from judge import Wrong, judge
 from live_parts.given import HEADERS
-
-
-class Failed(Exception):
-    """Why a test fails."""
-
-
-def need(holds, said):
-    """Fails, and says why, unless this holds."""
-    if not holds:
-        raise Failed(said)
 
 
 class Client:
@@ -67,7 +58,7 @@ class Client:
     def wait_for(self, wanted):
         """Waits until what came holds this line, and gives its place; fails where it doesn't come. Nothing is sent meanwhile."""
         if not self.more_until(lambda: any(map(wanted, self.lines()[self.begun :]))):
-            raise Failed(f"no answer before the next row; the last lines are {self.lines()[-3:]}, {self.told!r}")
+            raise AssertionError(f"no answer before the next row; the last lines are {self.lines()[-3:]}, {self.told!r}")
         return next(place for place, line in enumerate(self.lines()) if place >= self.begun and wanted(line))
 
     def ask(self, row):
@@ -84,7 +75,7 @@ class Client:
         """Sends a row and waits until all lines that were told are these, the last one for this row."""
         self.send(row + "\n")
         self.more_until(lambda: self.told.count(b"\n") >= len(told))
-        need(self.told.decode().splitlines() == told, f"{self.told!r} was told, and not {told}")
+        assert self.told.decode().splitlines() == told, f"{self.told!r} was told, and not {told}"
 
     def wait_for_end(self, batch):
         """Waits for the last line of the block of this batch."""
@@ -102,8 +93,16 @@ class Client:
         end = time.monotonic() + patience
         while self.open:
             if not self.more(max(0, end - time.monotonic())):
-                raise Failed(f"the call doesn't end; the last lines are {self.lines()[-3:]}, {self.told!r}")
+                raise AssertionError(f"the call doesn't end; the last lines are {self.lines()[-3:]}, {self.told!r}")
         return self.call.wait(patience), self.out.decode(), self.told.decode()
+
+    def close(self):
+        """Ends the call, if it still runs, and closes its ends."""
+        self.call.kill()
+        self.call.wait()
+        for end in (self.call.stdin, self.call.stdout, self.call.stderr):
+            with contextlib.suppress(OSError):  # what wasn't written yet can't be
+                end.close()
 
     def kill(self):
         """Ends the call at once, and reads what it had written."""
@@ -121,11 +120,11 @@ def judged(program, folder, accepted, report, *words, header=HEADERS[0]):
     try:
         judge(Run(folder, ["run", *named, *words]), report)
     except Wrong as wrong:
-        raise Failed(f"the judge refuses it: {wrong}")
+        raise AssertionError(f"the judge refuses it: {wrong}")
     if all(row.split(",")[1] == "0" for row in accepted):
         ran = subprocess.run([program, "run", *named, *words], cwd=folder, capture_output=True, text=True)
-        need(ran.stdout == report, "`run` prints another report")
+        assert ran.stdout == report, "`run` prints another report"
     if "proof=1" in words:
         (folder / "report").write_text(report)
         audit = subprocess.run([program, "audit", *named, "report=report"], cwd=folder, capture_output=True, text=True)
-        need(audit.returncode == 0, f"`audit` refuses it: {audit.stderr}")
+        assert audit.returncode == 0, f"`audit` refuses it: {audit.stderr}"

@@ -1,9 +1,7 @@
-"""The test of `live` on drawn rows, good and bad ones."""
+"""Drawn rows, good and bad ones, and the rule of which are refused."""
 
 import random
 
-from live_parts.client import Client, judged, need
-from live_parts.given import HEADERS, street
 from refusals import Refusal, judge_script
 
 
@@ -31,56 +29,6 @@ def drawn_rows(count, seed):
             yield f"{round_},{lane},dropoff,1,{rider},{now},"
         else:
             yield rng.choice([f"{round_},17,cancel,1,,,", f"{round_},{lane},jump,,,,", "", f"{round_ - 1},0,cancel,1,,,", "x"])
-
-
-def drawn_commands(program, folder, count, seed):
-    """Drawn rows at random pace: the refused ones are those that the rules refuse, the report is judged and audited."""
-    street(folder)
-    accepted, refused, last, number = [], [], 0, 0
-    client, rng = Client(program, folder, "proof=1"), random.Random(seed + 1)
-    client.send(HEADERS[0] + "\n")
-    waiting = []
-    for row in drawn_rows(count, seed):
-        if row:
-            number += 1
-            try:
-                judge_row(row.split(","), last)
-                accepted.append(row)
-                last = int(row.split(",")[0])
-            except Refusal as refusal:
-                refused.append(f"ridepool: script: {refusal}".replace(" row 1", f" row {number}"))
-        waiting.append(row + "\n")
-        if rng.random() < 0.1:
-            client.send("".join(waiting))
-            waiting = []
-            client.more(0)
-    client.send("".join(waiting))
-    status, report, errors = client.end()
-    need(status == 0, f"status {status}")
-    need(errors.splitlines() == refused, "other rows are refused than the rules say")
-    judged(program, folder, accepted, report, "proof=1")
-
-
-def drawn_rows_one_by_one(program, folder, count, seed):
-    """Drawn rows, each of which is answered, or told to be refused, before the next is sent."""
-    street(folder)
-    accepted, told, last, number = [], [], 0, 0
-    client = Client(program, folder, "proof=1")
-    client.send(HEADERS[0] + "\n")
-    for row in filter(None, drawn_rows(count, seed)):
-        number += 1
-        try:
-            judge_row(row.split(","), last)
-        except Refusal as refusal:
-            told.append(f"ridepool: script: {refusal}".replace(" row 1", f" row {number}"))
-            client.refused(row, told)
-            continue
-        accepted.append(row)
-        last = int(row.split(",")[0])
-        client.ask(row)
-    status, report, errors = client.end()
-    need((status, errors.splitlines()) == (0, told), f"status {status}, {errors!r}")
-    judged(program, folder, accepted, report, "proof=1")
 
 
 def judge_row(fields, last):

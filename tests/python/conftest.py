@@ -1,28 +1,20 @@
 """What the tests of the package share: where files lie, the program, and the town of the examples."""
 
-import os
 import pathlib
-import subprocess
-import sys
 
 import pytest
+import ridepool as rp
 
 TOP = pathlib.Path(__file__).resolve().parent.parent.parent
-sys.dont_write_bytecode = True
-sys.path[:0] = [str(TOP / "python"), str(TOP / "tests")]
-
-import ridepool as rp  # noqa: E402
-
 TOWN = TOP / "examples" / "town"
 
 
-def pytest_configure():
-    """The program that is tried: that of the environment, else the one of these sources."""
-    if "RIDEPOOL_PROGRAM" not in os.environ:
-        found = subprocess.run([str(TOP / "release" / "find")], capture_output=True, text=True)
-        if found.returncode != 0:
-            pytest.exit(found.stderr.strip(), returncode=1)
-        os.environ["RIDEPOOL_PROGRAM"] = found.stdout.strip()
+@pytest.fixture(scope="session", autouse=True)
+def named(program):
+    """The package finds the program that is tried by the environment."""
+    with pytest.MonkeyPatch.context() as patch:
+        patch.setenv("RIDEPOOL_PROGRAM", program)
+        yield
 
 
 @pytest.fixture(scope="session")

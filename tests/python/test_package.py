@@ -15,7 +15,7 @@ import ridepool as rp
 
 TOP = pathlib.Path(__file__).resolve().parent.parent.parent
 MODULES = sorted({f"ridepool.{place}" for place in rp.PLACES.values()})
-TYPED = ["python/ridepool"]
+TYPED = ["python/ridepool", "tools"]
 
 
 @pytest.mark.parametrize("name", MODULES)

@@ -190,16 +190,16 @@ def test_alive_is_told_of_a_killed_program(given):
     asyncio.run(asyncio.wait_for(day(), 60))
 
 
-@pytest.mark.parametrize("program", ["/bin/false", "/bin/true", "/nowhere/program"])
-def test_another_program_is_no_session(given, program):
+@pytest.mark.parametrize("other", ["/bin/false", "/bin/true", "/nowhere/program"])
+def test_another_program_is_no_session(given, other):
     with pytest.raises(rp.ProgramFailed):
-        rp.live(*given, program=program)
+        rp.live(*given, program=other)
     with pytest.raises(rp.ProgramFailed):
         rp.drive(given[0], given[1], rp.Requests.from_frame(pandas.DataFrame({"from": [1], "to": [2], "time": [0]})),
-                 program=program)
+                 program=other)
 
     async def day():
-        async with rp.alive(*given, program=program):
+        async with rp.alive(*given, program=other):
             pass
 
     with pytest.raises(rp.ProgramFailed):

@@ -3,7 +3,6 @@
 import subprocess
 from pathlib import Path
 
-from live_parts.client import need
 from resume_parts.kept import Kept
 
 PATIENCE = 600  # seconds of a call, after which it is taken to hang
@@ -26,7 +25,7 @@ class Day:
         self.program, self.folder, self.rows, self.words = program, Path(folder), rows, words
         self.named = [f"network={folder}/network.csv", f"fleet={folder}/fleet.csv"]
         ran = self.call("live", [*words, "proof=1"], script_of(rows))
-        need(ran.returncode == 0, f"`live` ends with {ran.returncode}, {ran.stderr!r}")
+        assert ran.returncode == 0, f"`live` ends with {ran.returncode}, {ran.stderr!r}"
         self.report = ran.stdout
 
     def call(self, command, words, rows=""):
@@ -51,15 +50,15 @@ class Day:
         kept = Kept(torn)
         before, left = kept.parted(self.rows)
         ran = self.resume(torn, left, *words)
-        need(ran.returncode == 0, f"status {ran.returncode}, {ran.stderr!r} behind {len(torn)} bytes")
-        need(ran.stderr.decode() == kept.told(), f"{ran.stderr!r} behind {len(torn)} bytes, and not {kept.told()!r}")
-        need(ran.stdout.startswith(kept.text), f"another beginning behind {len(torn)} bytes")
+        assert ran.returncode == 0, f"status {ran.returncode}, {ran.stderr!r} behind {len(torn)} bytes"
+        assert ran.stderr.decode() == kept.told(), f"{ran.stderr!r} behind {len(torn)} bytes, and not {kept.told()!r}"
+        assert ran.stdout.startswith(kept.text), f"another beginning behind {len(torn)} bytes"
         audit = self.audit(ran.stdout, before + left)
-        need(audit.returncode == 0, f"`audit` refuses what comes behind {len(torn)} bytes: {audit.stderr!r}")
+        assert audit.returncode == 0, f"`audit` refuses what comes behind {len(torn)} bytes: {audit.stderr!r}"
         return ran.stdout
 
     def refuses(self, torn, line):
         """A report that is refused: status 13, this line, and nothing is written."""
         ran = self.resume(torn, [])
         said = ran.returncode, ran.stdout, ran.stderr.decode()
-        need(said == (13, b"", f"ridepool: report: {line}\n"), f"{said} behind {len(torn)} bytes, and not {line!r}")
+        assert said == (13, b"", f"ridepool: report: {line}\n"), f"{said} behind {len(torn)} bytes, and not {line!r}"

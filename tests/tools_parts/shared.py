@@ -1,15 +1,10 @@
-"""What the tests of the tools share: where files lie, calls of tools, looks into pictures, and the run of all tests."""
+"""What the tests of the tools share: where files lie, calls of tools, looks into pictures."""
 
 import contextlib
 import importlib
 import io
-import os
 import pathlib
-import shutil
-import subprocess
 import sys
-import tempfile
-import traceback
 import xml.etree.ElementTree
 
 TOP = pathlib.Path(__file__).resolve().parent.parent.parent
@@ -17,12 +12,6 @@ TOOLS, DATA, EXPECTED = TOP / "tools", TOP / "tests" / "tools", TOP / "tests" / 
 CASES = TOP / "tests" / "cases"
 LINE, TOWN, PICTURES = TOP / "examples" / "line", TOP / "examples" / "town", TOP / "docs" / "pictures"
 SVG = "{http://www.w3.org/2000/svg}"
-sys.dont_write_bytecode = True
-sys.path[:0] = [str(TOP / "python"), str(DATA)]
-
-from ridepool import words  # noqa: E402
-from skips import Skipped, last_line  # noqa: E402
-
 MODULES = {
     "from_sumo": "ridepool.inputs.from_sumo",
     "from_trips": "ridepool.inputs.from_trips",
@@ -31,25 +20,6 @@ MODULES = {
     "draw": "ridepool.draw.command",
     "study": "ridepool.study.command",
 }
-
-
-def tests_of(*modules):
-    """The names and functions of the tests of these modules."""
-    return [(name, test) for module in modules for name, test in module.items() if name.startswith("test_")]
-
-
-def find_python(name, *modules, tests):
-    """Goes on with a Python that has the modules; where there is none, says that these tests were skipped."""
-    if not words.missing_modules(modules):
-        return
-    probe = f"import sys; sys.path.insert(0, {str(TOP / 'python')!r}); from ridepool import words; " \
-            f"sys.exit(len(words.missing_modules({modules!r})))"
-    for python in dict.fromkeys((words.DEBIAN_PYTHON, shutil.which("python3"))):
-        if python and os.path.exists(python) and subprocess.run([python, "-c", probe]).returncode == 0:
-            os.execv(python, [python, *sys.argv])
-    print(f"skipped: {name}, since no Python here has all they need: {words.INSTALL}")
-    print(last_line(0, 0, len(tests)))
-    sys.exit(0)
 
 
 def call(tool, *arguments):
@@ -128,7 +98,7 @@ def drawn(folder, *arguments, name="picture.svg"):
 
 def made_report(folder, vehicles, batches=20):
     """The paths of a made day's report and network."""
-    import made_day
+    from tools_parts import made_day
 
     report, network = folder / f"made-{vehicles}.report", folder / "made-network.csv"
     report.write_text("\n".join(made_day.Day(vehicles, batches, 1).report()) + "\n")
@@ -142,24 +112,3 @@ def rows_without_overlap(svg, least=0.14):
     heights = sorted(float(text.get("y")) / 72 for text in ticks if text.text.isdigit())
     assert all(low - high >= least for high, low in zip(heights, heights[1:])), heights
     return len(heights)
-
-
-def run_tests(*modules):
-    """Runs the tests of these modules, each in a folder of its own. Gives the status."""
-    answers = [passes(name, test) for name, test in tests_of(*modules)]
-    print(last_line(answers.count(True), answers.count(False), answers.count(None)))
-    return 1 if False in answers else 0
-
-
-def passes(name, test):
-    """Whether a test passes; None where it can't be tried."""
-    with tempfile.TemporaryDirectory() as folder:
-        try:
-            test(pathlib.Path(folder))
-        except Skipped as why:
-            print(f"skipped: {name}, since {why}")
-            return None
-        except Exception:
-            print(f"{name}: {traceback.format_exc()}")
-            return False
-    return True

@@ -1,6 +1,10 @@
 """The order in which a reader meets the definitions: chapters, in each its files, those that others name first."""
 
-CHAPTERS = (
+from __future__ import annotations
+
+from collections.abc import Mapping
+
+CHAPTERS: tuple[tuple[str, ...], ...] = (
     ("Ids and walks", "The ids of the files, the network, and the least seconds from node to node.",
      "pool_base/src", "pool_base/specs/TravelTime", "pool_base/specs/Times", "pool_io/specs/Faults", "road_network/src/arc", "road_network/specs/Roads", "road_network/specs/Walk", "travel_times"),
     ("Orders of stops", "What a vehicle has to serve, the orders of its stops, and which of them serve everybody in time.",
@@ -42,7 +46,7 @@ CHAPTERS = (
 )
 
 
-def chapter_of(place):
+def chapter_of(place: str) -> int:
     """The number of the chapter of a file: of the longest name that it begins with; behind all where none is it."""
     best = (0, len(CHAPTERS))
     for at, (_, _, *homes) in enumerate(CHAPTERS):
@@ -50,18 +54,19 @@ def chapter_of(place):
     return best[1]
 
 
-def place_in(place):
+def place_in(place: str) -> int:
     """Where a file stands in its chapter, before its own uses are looked at."""
     homes = CHAPTERS[chapter_of(place)][2:] if chapter_of(place) < len(CHAPTERS) else ()
     return max(((len(home), -at) for at, home in enumerate(homes) if place == home or place.startswith(f"{home}/")), default=(0, 0))[1]
 
 
-def in_order(uses):
+def in_order(uses: Mapping[str, set[str]]) -> list[str]:
     """Files in the order of a chapter, each behind those of the chapter that it uses, where there is no ring of them.
     `uses` has for each file those whose definitions it names."""
-    order, seen = [], set()
+    order: list[str] = []
+    seen: set[str] = set()
 
-    def visit(place):
+    def visit(place: str) -> None:
         if place in seen or place not in uses:
             return
         seen.add(place)
@@ -69,7 +74,7 @@ def in_order(uses):
             visit(used)
         order.append(place)
 
-    def rank(place):
+    def rank(place: str) -> tuple[int, str]:
         return -place_in(place), place
 
     for place in sorted(uses, key=rank):

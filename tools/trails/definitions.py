@@ -1,21 +1,24 @@
 """Reads the definitions of specs/."""
 
-import re
+from __future__ import annotations
 
-from trails.words import Names, Piece, uses_of
+import re
+from pathlib import Path
+
+from trails.words import Key, Names, Piece, uses_of
 
 HEAD = re.compile(r"^(?:abbrev|unfoldable|opaque)\s+(?:pub\s+)?(?P<names>[^:]+?)\s*:\s")
 # a line that begins with a record's literal belongs to the definition above it
 SHAPE = re.compile(r"^(?:pub\s+)?(?:record|data)\s+(?P<names>[^\s{]\S*)")
 
 
-def module_of(path, crates):
+def module_of(path: Path, crates: Path) -> str:
     return ".".join(path.relative_to(crates).with_suffix("").parts)
 
 
-def passed_on_by(text):
+def passed_on_by(text: str) -> dict[str, Key]:
     """What a file passes on: its name for it, and the module and name that it stands for."""
-    found = {}
+    found: dict[str, Key] = {}
     for line in text.splitlines():
         if line.startswith("pub use"):
             for path, names, _ in uses_of(line):
@@ -25,9 +28,11 @@ def passed_on_by(text):
     return found
 
 
-def definitions_of(module, path, text):
+def definitions_of(module: str, path: Path, text: str) -> dict[Key, Piece]:
     """The definitions of a file in their order. A comment belongs to the definition that stands below it."""
-    found, current, comment = {}, [], []
+    found: dict[Key, Piece] = {}
+    current: list[Piece] = []
+    comment: list[str] = []
     for raw in text.splitlines():
         line = raw.strip()
         if line.startswith("--"):
@@ -52,9 +57,10 @@ def definitions_of(module, path, text):
     return found
 
 
-def read_definitions(crates):
+def read_definitions(crates: Path) -> tuple[dict[Key, Piece], dict[str, dict[str, Key]]]:
     """All definitions by module and name, each with the imports of its file, and what each module passes on."""
-    pieces, passed_on = {}, {}
+    pieces: dict[Key, Piece] = {}
+    passed_on: dict[str, dict[str, Key]] = {}
     for path in sorted(crates.glob("*/specs/**/*.antt")):
         if "declared" in path.parts:
             continue

@@ -7,4 +7,4 @@ An entry that is no longer needed is a fault, so that this file only shrinks.
 FAULTS: dict[str, str] = {}
 
 # sentences of definitions that have no comment of their own, or share one
-SENTENCES: dict[str, str] = {}
+SENTENCES: dict[tuple[str, str], str] = {}

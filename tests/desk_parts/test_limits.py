@@ -7,11 +7,10 @@ import json
 import socket
 import threading
 
-from desk_parts.shared import LINE, LONG, PATIENCE, TOWN, desk, inputs, test, until
+from desk_parts.shared import LINE, LONG, PATIENCE, TOWN, inputs, until
 
 
-@test
-def small_answers_go_out_at_once():
+def test_small_answers_go_out_at_once():
     from ridepool.desk.command import bound
 
     async def option():
@@ -38,8 +37,7 @@ def header(it, method, path, **headers):
     return answer.status, dict(answer.getheaders()), body
 
 
-@test
-def head_has_the_headers_of_get_and_no_body():
+def test_head_has_the_headers_of_get_and_no_body(desk):
     with desk(*inputs(LINE)) as it:
         it.gives("POST", "/rides", {"from": 2, "to": 4, "time": 0})
         for path in ("/rides", "/vehicles/1", "/batches", "/", "/desk.js", "/openapi.json", "/network"):
@@ -65,8 +63,7 @@ def all_pages(it, path):
     return items, counts
 
 
-@test
-def lists_come_in_pages():
+def test_lists_come_in_pages(desk):
     with desk(*inputs(TOWN), *LONG, "trip=2") as it:
         for number in range(25):
             it.gives("POST", "/rides", {"from": 1, "to": 2 + number, "time": number})
@@ -92,8 +89,7 @@ def lists_come_in_pages():
         assert [it["batch"] for it in it.gives("GET", f"/batches?since={plans[4]['second']}&last=1")] == [5]
 
 
-@test
-def a_page_looks_at_so_many_and_no_more():
+def test_a_page_looks_at_so_many_and_no_more():
     from ridepool.desk.lists import MOST_LOOKED_AT, page_of
 
     keys, looked = range(3 * MOST_LOOKED_AT), []
@@ -104,8 +100,7 @@ def a_page_looks_at_so_many_and_no_more():
     assert page_of([1, 2], lambda it: True, 1, 0) == ([1], 1) and page_of([1, 2], lambda it: True, 2, 0) == ([1, 2], None)
 
 
-@test
-def idle_connections_keep_nobody_out():
+def test_idle_connections_keep_nobody_out(desk):
     with desk(*inputs(LINE)) as it, contextlib.ExitStack() as open_ones:
         for number in range(1050):
             caller = open_ones.enter_context(socket.socket())
@@ -117,8 +112,7 @@ def idle_connections_keep_nobody_out():
         assert it.gives("POST", "/rides", {"from": 2, "to": 4})["ride"] == 1
 
 
-@test
-def headers_and_bodies_that_are_never_whole_are_closed():
+def test_headers_and_bodies_that_are_never_whole_are_closed(desk):
     with desk(*inputs(LINE)) as it, contextlib.ExitStack() as open_ones:
         def begins(text):
             caller = open_ones.enter_context(socket.create_connection(("127.0.0.1", it.port), timeout=PATIENCE))
@@ -151,8 +145,7 @@ class Connection:
         self.is_closed = True
 
 
-@test
-def the_connection_that_was_used_longest_ago_makes_room():
+def test_the_connection_that_was_used_longest_ago_makes_room():
     from ridepool.desk.connections import Connections
 
     held = Connections(3, 2)
@@ -167,8 +160,7 @@ def the_connection_that_was_used_longest_ago_makes_room():
     assert held.add(Connection(), "c") and held.of_address == {"b": 2, "c": 1}
 
 
-@test
-def a_call_that_is_sent_again_is_made_once():
+def test_a_call_that_is_sent_again_is_made_once(desk):
     with desk(*inputs(LINE)) as it:
         body, key = {"from": 2, "to": 4}, {"idempotency-key": "one"}
         first = it.call("POST", "/rides", body, headers=key)

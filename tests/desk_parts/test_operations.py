@@ -7,9 +7,9 @@ import shutil
 import subprocess
 import tempfile
 
-from desk_parts.shared import LINE, LONG, TOP, TOWN, audited, desk, fails, folder_for_days, inputs, test, until
+import pytest
+from desk_parts.shared import LINE, LONG, TOP, TOWN, folder_for_days, inputs, until
 from ridepool import words
-from skips import Skipped
 
 SAID = re.compile(r"\d{4}-\d\d-\d\dT\d\d:\d\d:\d\d\.\d{3}Z (INFO|WARNING|ERROR) desk: .")
 
@@ -22,10 +22,9 @@ def figures(it):
     return {line.rpartition(" ")[0]: float(line.rpartition(" ")[2]) for line in lines}
 
 
-@test
-def figures_are_there_for_prometheus():
+def test_figures_are_there_for_prometheus(desk):
     if words.missing_modules(["prometheus_client"]):
-        raise Skipped("there is no client of Prometheus: apt-get install python3-prometheus-client")
+        pytest.skip("there is no client of Prometheus: apt-get install python3-prometheus-client")
     with desk(*inputs(LINE), *LONG) as it:
         it.gives("POST", "/rides", {"from": 2, "to": 4, "time": 0})
         it.gives("POST", "/rides", {"from": 3, "to": 5, "time": 0})
@@ -45,43 +44,38 @@ def figures_are_there_for_prometheus():
         assert found["ridepool_live_memory_bytes"] > 0 and found["process_resident_memory_bytes"] > 0
 
 
-@test
-def lines_of_the_log_have_a_time_and_a_level():
-    with folder_for_days() as folder:
-        with desk(*inputs(LINE), folder=folder) as it:
-            it.gives("POST", "/rides", {"from": 2, "to": 4})
-            it.end()
-        assert len(it.said) >= 2 and all(SAID.match(line) for line in it.said), it.said
-        with desk(folder=folder) as it:
-            assert any("ridepool resume goes on with the " in line for line in it.said) and all(SAID.match(line) for line in it.said), it.said
+def test_lines_of_the_log_have_a_time_and_a_level(desk, folder):
+    with desk(*inputs(LINE), folder=folder) as it:
+        it.gives("POST", "/rides", {"from": 2, "to": 4})
+        it.end()
+    assert len(it.said) >= 2 and all(SAID.match(line) for line in it.said), it.said
+    with desk(folder=folder) as it:
+        assert any("ridepool resume goes on with the " in line for line in it.said) and all(SAID.match(line) for line in it.said), it.said
 
 
-@test
-def a_lost_transcript_is_never_taken_for_a_new_day():
-    with folder_for_days() as folder:
-        with desk(*inputs(TOWN), *LONG, "proof=1", folder=folder) as it:
-            for number in range(6):
-                it.gives("POST", "/rides", {"from": 1 + number, "to": 40, "time": number})
-            it.plan()
-            it.gives("DELETE", "/rides/6")
-            it.plan()
-            before = it.state()
-        path, kept = folder / "transcript", (folder / "transcript").read_text()
-        head = "".join(kept.splitlines(keepends=True)[:3])
-        for text in (None, "", head):
-            path.unlink() if text is None else path.write_text(text)
-            fails("the transcript is missing or empty, and rows.csv has 9 rows of this day", folder=folder)
-            assert (path.read_text() if path.exists() else None) == text
-        rows = (folder / "rows.csv").read_text()
-        path.write_text(kept)
-        with desk(folder=folder) as it:
-            assert it.state() == before
-        assert (folder / "rows.csv").read_text() == rows
-        audited(folder, 2)
+def test_a_lost_transcript_is_never_taken_for_a_new_day(desk, fails, audited, folder):
+    with desk(*inputs(TOWN), *LONG, "proof=1", folder=folder) as it:
+        for number in range(6):
+            it.gives("POST", "/rides", {"from": 1 + number, "to": 40, "time": number})
+        it.plan()
+        it.gives("DELETE", "/rides/6")
+        it.plan()
+        before = it.state()
+    path, kept = folder / "transcript", (folder / "transcript").read_text()
+    head = "".join(kept.splitlines(keepends=True)[:3])
+    for text in (None, "", head):
+        path.unlink() if text is None else path.write_text(text)
+        fails("the transcript is missing or empty, and rows.csv has 9 rows of this day", folder=folder)
+        assert (path.read_text() if path.exists() else None) == text
+    rows = (folder / "rows.csv").read_text()
+    path.write_text(kept)
+    with desk(folder=folder) as it:
+        assert it.state() == before
+    assert (folder / "rows.csv").read_text() == rows
+    audited(folder, 2)
 
 
-@test
-def a_changed_input_is_named():
+def test_a_changed_input_is_named(desk, fails):
     for name in ("network", "fleet", "nodes"):
         with folder_for_days() as folder:
             with desk(*inputs(LINE), folder=folder):
@@ -96,11 +90,10 @@ def a_changed_input_is_named():
                 assert it.gives("GET", "/rides") == []
 
 
-@test
-def the_debian_package_is_installed_in_a_folder_and_opens_a_desk():
+def test_the_debian_package_is_installed_in_a_folder_and_opens_a_desk(desk):
     for tool in ("dpkg-deb", "dpkg"):
         if shutil.which(tool) is None:
-            raise Skipped(f"there is no {tool}")
+            pytest.skip(f"there is no {tool}")
     with tempfile.TemporaryDirectory() as place:
         folder = pathlib.Path(place)
         subprocess.run(["bash", str(TOP / "package" / "deb"), place], check=True, capture_output=True)
@@ -133,10 +126,9 @@ def installed(package, root):
     assert done.returncode == 0, done
 
 
-@test
-def the_unit_has_no_fault_that_systemd_finds():
+def test_the_unit_has_no_fault_that_systemd_finds():
     if shutil.which("systemd-analyze") is None:
-        raise Skipped("there is no systemd-analyze")
+        pytest.skip("there is no systemd-analyze")
     with tempfile.TemporaryDirectory() as place:
         text = (TOP / "package" / "ridepool-desk@.service").read_text()
         unit = pathlib.Path(place) / "ridepool-desk@.service"

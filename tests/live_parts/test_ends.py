@@ -3,10 +3,10 @@
 import os
 import subprocess
 
-from faults import Plan, Shim
-from live_parts.client import Client, Failed, judged, need
-from live_parts.given import HEADERS, NOTICED, street
-from skips import Skipped
+import pytest
+from faults import Plan
+from live_parts.client import Client, judged
+from live_parts.given import HEADERS, NOTICED
 
 TRIES = 60  # requests of memory that fail, one in each call
 WITHOUT = "ridepool: out of memory\n"
@@ -17,13 +17,6 @@ FINEST, AMPLE = 256, 2_000_000  # kB of address space: the least step, and what 
 LEAST_STEP, STACK = 16, 96
 
 
-def shim_of(program):
-    shim = Shim(program)
-    if shim.why:
-        raise Skipped(f"ends of live whose calls fail, since {shim.why}")
-    return shim
-
-
 def sealed(client):
     """Sends rows up to a seal, one by one. No further row is written then."""
     client.send(HEADERS[0] + "\n")
@@ -31,25 +24,24 @@ def sealed(client):
         client.ask(row)
 
 
-def open_batch_without_threads(program, folder):
+def test_open_batch_without_threads(live, program, folder, shim):
     """Where no second thread can be made, or no third and so on, an open batch is solved before the next row is waited for."""
-    street(folder)
-    shim, calls = shim_of(program), 0
+    calls = 0
     for first in (1, 2, 3, 4):
         plan = Plan(fail={"threads": first})
-        client = Client(program, folder, "proof=1", env=shim.environment(folder, plan))
+        client = live("proof=1", env=shim.environment(folder, plan))
         sealed(client)
         client.wait_for_end(1)
         for row in NOTICED[SEAL + 1 :]:
             client.ask(row)
         client.wait_for_end(2)
         status, report, errors = client.end()
-        need((status, errors) == (0, ""), f"status {status}, {errors!r} where thread {first} can't be made")
+        assert (status, errors) == (0, ""), f"status {status}, {errors!r} where thread {first} can't be made"
         judged(program, folder, NOTICED, report, "proof=1")
         plan.read(folder / "plan")
         calls += plan.failed["threads"]
     if not calls:
-        raise Skipped("an open batch without threads, since the program makes none by this C library")
+        pytest.skip("the program makes no threads by this C library")
 
 
 def after_the_seal(client, folder, known):
@@ -57,16 +49,16 @@ def after_the_seal(client, folder, known):
     call. Gives the status and what was told; what was written begins the known report, or is all of it."""
     client.more_until(lambda: "end" in client.lines() or not client.open)
     if client.open:
-        need("end" in client.lines(), f"it waits for a row; the last lines are {client.lines()[-3:]}")
+        assert "end" in client.lines(), f"it waits for a row; the last lines are {client.lines()[-3:]}"
         client.call.stdin.close()
     status, report, told = client.ended(client.patience)
-    need(known.startswith(report) and (report == known) == (status == 0), f"status {status}, {report!r} is no beginning")
+    assert known.startswith(report) and (report == known) == (status == 0), f"status {status}, {report!r} is no beginning"
     return status, told
 
 
-def whole_report(program, folder, **more):
+def whole_report(live, folder, **more):
     """The report of the rows up to the seal, and what was called before the seal and up to the block's end."""
-    client = Client(program, folder, **more)
+    client = live(**more)
     client.send(HEADERS[0] + "\n")
     for row in NOTICED[:SEAL]:
         client.ask(row)
@@ -77,43 +69,41 @@ def whole_report(program, folder, **more):
     after = Plan()
     after.read(folder / "plan")
     status, report, errors = client.end()
-    need((status, errors) == (0, ""), f"status {status}, {errors!r}")
+    assert (status, errors) == (0, ""), f"status {status}, {errors!r}"
     return report, before.calls, after.calls
 
 
-def failing_while_a_batch_is_open(program, folder, kind, most, check):
+def failing_while_a_batch_is_open(live, folder, shim, kind, most, check):
     """Each call of a kind, or some, fails between the row before a seal and the end of the batch's block. The call ends at
     once then, or goes on and ends with its input."""
-    street(folder)
-    shim = shim_of(program)
-    known, before, after = whole_report(program, folder, env=shim.environment(folder, Plan(most)))
+    known, before, after = whole_report(live, folder, env=shim.environment(folder, Plan(most)))
     calls = range(before[kind] + 1, after[kind] + 1)
-    need(calls, f"no call on {kind} is made while a batch is open")
+    assert calls, f"no call on {kind} is made while a batch is open"
     failed = 0
     for call in calls[:: max(1, len(calls) // TRIES)]:
         plan = Plan(most, {kind: call})
-        client = Client(program, folder, env=shim.environment(folder, plan))
+        client = live(env=shim.environment(folder, plan))
         client.send("\n".join([HEADERS[0], *NOTICED[: SEAL + 1], ""]))
         said = after_the_seal(client, folder, known)
-        need(check(*said), f"{said} where call {call} on {kind} fails")
+        assert check(*said), f"{said} where call {call} on {kind} fails"
         plan.read(folder / "plan")
         failed += plan.failed[kind]
-    need(failed, f"no call on {kind} failed")
+    assert failed, f"no call on {kind} failed"
 
 
-def want_of_memory_while_a_batch_is_open(program, folder):
+def test_want_of_memory_while_a_batch_is_open(live, folder, shim):
     """Status 9 at once, or the block comes."""
-    failing_while_a_batch_is_open(program, folder, "memory", {}, is_without_memory)
+    failing_while_a_batch_is_open(live, folder, shim, "memory", {}, is_without_memory)
 
 
 def is_without_memory(status, told):
     return (status, told) == (0, "") or status == 9 and told in ("", WITHOUT)
 
 
-def write_fault_while_a_batch_is_open(program, folder):
+def test_write_fault_while_a_batch_is_open(live, folder, shim):
     """Status 8 at once."""
     wanted = 8, "ridepool: report: write failed\n"
-    failing_while_a_batch_is_open(program, folder, "output", {"output": 7}, lambda *said: said == wanted)
+    failing_while_a_batch_is_open(live, folder, shim, "output", {"output": 7}, lambda *said: said == wanted)
 
 
 def limited(program, folder, limit):
@@ -136,13 +126,13 @@ def starts(program, folder, limit):
     return len(client.lines()) >= 4
 
 
-def little_address_space(program, folder):
+def test_little_address_space(live, program, folder):
     """From the least address space that a call starts with, and a stack, to ample: the block of an open batch comes while the
     input stays open, or the call ends with status 9."""
-    street(folder)
-    known, _, _ = whole_report_without_plan(program, folder)
+    Plan().write(folder / "plan")
+    known, _, _ = whole_report(live, folder)
     least, ample = 0, AMPLE
-    need(starts(program, folder, ample), "the call doesn't start")
+    assert starts(program, folder, ample), "the call doesn't start"
     while ample - least > LEAST_STEP:
         middle = (least + ample) // 2
         least, ample = (least, middle) if starts(program, folder, middle) else (middle, ample)
@@ -151,9 +141,9 @@ def little_address_space(program, folder):
         client = limited(program, folder, limit)
         client.send("\n".join([HEADERS[0], *NOTICED[: SEAL + 1], ""]))
         said = after_the_seal(client, folder, known)
-        need(is_without_memory(*said), f"{said} with {limit} kB of address space")
+        assert is_without_memory(*said), f"{said} with {limit} kB of address space"
         statuses.add(said[0])
-    need(0 in statuses, f"{statuses} with ample address space")
+    assert 0 in statuses, f"{statuses} with ample address space"
 
 
 def limits(least):
@@ -165,14 +155,8 @@ def limits(least):
     yield AMPLE
 
 
-def whole_report_without_plan(program, folder):
-    Plan().write(folder / "plan")
-    return whole_report(program, folder)
-
-
-def script_opened_last(program, folder):
+def test_script_opened_last(program, folder):
     """A fifo of the script is opened after network and fleet are judged: where one is refused, nobody has to write to it."""
-    street(folder)
     os.mkfifo(folder / "pipe")
     for name, status, line in [("fleet.csv", 3, "network: wrong header of 4 fields"), ("none", 7, "network: read failed")]:
         words = [f"network={name}", "fleet=fleet.csv", "script=pipe"]
@@ -180,6 +164,6 @@ def script_opened_last(program, folder):
             try:
                 ran = subprocess.run([program, command, *words], cwd=folder, capture_output=True, text=True, timeout=Client.patience)
             except subprocess.TimeoutExpired:
-                raise Failed(f"{command} waits for a writer of the script though its network is refused")
+                raise AssertionError(f"{command} waits for a writer of the script though its network is refused")
             said = ran.returncode, ran.stdout, ran.stderr
-            need(said == (status, "", f"ridepool: {line}\n"), f"{command}: {said}")
+            assert said == (status, "", f"ridepool: {line}\n"), f"{command}: {said}"

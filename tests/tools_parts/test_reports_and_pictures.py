@@ -5,7 +5,7 @@ import re
 import shutil
 import subprocess
 
-from skips import Skipped
+import pytest
 from tools_parts.shared import (
     DATA,
     EXPECTED,
@@ -207,7 +207,7 @@ def test_town_trips(folder):
 def test_town_map(folder):
     """The worked example: its map becomes a network where netconvert is there."""
     if shutil.which("netconvert") is None:
-        raise Skipped("there is no netconvert")
+        pytest.skip("there is no netconvert")
     home = {"SUMO_HOME": "/usr/share/sumo", **os.environ}
     net = folder / "town.net.xml"
     subprocess.run(["netconvert", "--osm-files", TOWN / "town.osm", "--output-file", net],

@@ -13,7 +13,7 @@ import shutil
 import signal
 import time
 
-from desk_parts.shared import LONG, PATIENCE, TOP, TOWN, Desk, audited, desk, fails, folder_for_days, inputs, test, until
+from desk_parts.shared import LONG, PATIENCE, TOWN, WITH_PACKAGE, Desk, audited, folder_for_days, inputs, until
 
 SEED = int(os.environ.get("DESK_SEED", "67"))
 DAYS = 4  # desks that are killed side by side, each in a folder of its own
@@ -239,12 +239,13 @@ def killed(it, order):
     it.end(signal.SIGKILL)
 
 
-def killed_day(folder, moments, seed, pause=SHORT, **more):
+def killed_day(program, folder, moments, seed, pause=SHORT, **more):
     """A day whose desk is killed at these moments, and is closed at last. Gives what was told."""
     rng, told, took = random.Random(seed), Told(), 1.0
     for moment in [*moments, None]:
         has_begun, began = (folder / "day.json").exists(), time.monotonic()
-        it = Desk(folder, *([] if has_begun else [*inputs(TOWN), *LONG, "trip=3"]), waits_for=None, **more)
+        words = [] if has_begun else [*inputs(TOWN), *LONG, "trip=3"]
+        it = Desk(folder, *words, program=program, waits_for=None, **more)
         try:
             if moment == "starting":
                 time.sleep(rng.random() * took)
@@ -267,7 +268,7 @@ def killed_day(folder, moments, seed, pause=SHORT, **more):
     until(lambda: not runs_on(folder), "each program has ended")
     text = (folder / "transcript").read_text()
     told.must_be_in_report(text)
-    audited(folder, text.count("\nend\n"))
+    audited(program, folder, text.count("\nend\n"))
     return told
 
 
@@ -288,8 +289,7 @@ def runs_on(folder):
     return found
 
 
-@test
-def forty_kills_at_drawn_moments_lose_nothing_answered():
+def test_forty_kills_at_drawn_moments_lose_nothing_answered(program):
     moments = [it for it, count in KILLS.items() for _ in range(count)]
     random.Random(SEED).shuffle(moments)
     began = time.monotonic()
@@ -297,7 +297,7 @@ def forty_kills_at_drawn_moments_lose_nothing_answered():
         days = []
         for number in range(DAYS):
             folder = folders.enter_context(folder_for_days())
-            days.append(pool.submit(killed_day, folder, moments[number::DAYS], SEED + number))
+            days.append(pool.submit(killed_day, program, folder, moments[number::DAYS], SEED + number))
         told = [day.result() for day in days]
     kills = sum((it.kills for it in told), collections.Counter())
     answered, sent = sum(len(it.answered) for it in told), sum(it.sent for it in told)
@@ -306,24 +306,20 @@ def forty_kills_at_drawn_moments_lose_nothing_answered():
     assert kills == KILLS and all(it.answered for it in told), kills
 
 
-@test
-def a_day_whose_desk_was_killed_as_it_began_begins():
-    with folder_for_days() as folder:
-        folder.mkdir(parents=True)
-        shutil.copy(TOWN / "network.csv", folder)
-        for name in ("fleet.csv.part", "day.json.part"):
-            (folder / name).write_text("torn")
-        fails("words: bad value", *inputs(TOWN), "wait=8000", folder=folder)
-        assert {it.name for it in folder.iterdir() if it.suffix == ".csv"} == {"network.csv"}
-        with desk(*inputs(TOWN), folder=folder) as it:
-            it.gives("POST", "/rides", {"from": 2, "to": 4})
-        assert {it.name for it in folder.iterdir() if it.suffix == ".part"} == set()
-        audited(folder, 0)
+def test_a_day_whose_desk_was_killed_as_it_began_begins(desk, fails, audited, folder):
+    folder.mkdir(parents=True)
+    shutil.copy(TOWN / "network.csv", folder)
+    for name in ("fleet.csv.part", "day.json.part"):
+        (folder / name).write_text("torn")
+    fails("words: bad value", *inputs(TOWN), "wait=8000", folder=folder)
+    assert {it.name for it in folder.iterdir() if it.suffix == ".csv"} == {"network.csv"}
+    with desk(*inputs(TOWN), folder=folder) as it:
+        it.gives("POST", "/rides", {"from": 2, "to": 4})
+    assert {it.name for it in folder.iterdir() if it.suffix == ".part"} == set()
+    audited(folder, 0)
 
 
 WRONG = """
-import sys
-sys.path.insert(0, {python!r})
 from ridepool.desk import command, dispatcher, folder
 from ridepool.report.reader import Entry
 {change}
@@ -345,15 +341,14 @@ folder.Folder.append = append
 """
 
 
-@test
-def a_desk_that_answers_before_live_did_or_before_it_wrote_is_found():
+def test_a_desk_that_answers_before_live_did_or_before_it_wrote_is_found(program):
     for change, moment in (EARLY, "stopped"), (UNWRITTEN, "answered"):
         with folder_for_days() as folder:
             folder.parent.mkdir(exist_ok=True)
             tool = folder.parent / "wrong.py"
-            tool.write_text(WRONG.format(python=str(TOP / "python"), change=change))
+            tool.write_text(WRONG.format(change=change))
             try:
-                killed_day(folder, [moment], SEED, PATIENCE, tool=tool)
+                killed_day(program, folder, [moment], SEED, PATIENCE, tool=tool, env=WITH_PACKAGE)
             except Lost:
                 continue
             raise AssertionError(f"nothing was lost by a desk that is killed {moment}:{change}")

@@ -11,9 +11,9 @@ import ssl
 import subprocess
 import tempfile
 
-from desk_parts.roles import made
-from desk_parts.shared import LINE, PATIENCE, TOP, desk, inputs, test, until
-from skips import Skipped
+import pytest
+from desk_parts.shared import LINE, PATIENCE, TOP, inputs, until
+from desk_parts.tokens import made
 
 NAME = "desk.example.org"
 WHOLE = """daemon off;
@@ -36,7 +36,7 @@ def nginx():
     """The program, and that which makes a certificate."""
     found = shutil.which("nginx", path=os.environ.get("PATH", "") + ":/usr/sbin")
     if found is None or shutil.which("openssl") is None:
-        raise Skipped("there is no nginx: apt-get install nginx openssl")
+        pytest.skip("there is no nginx: apt-get install nginx openssl")
     return found
 
 
@@ -95,8 +95,7 @@ def call(port, folder, method, path, token=None, body=None):
     return answer.status, json.loads(answer.read())
 
 
-@test
-def the_desk_stands_behind_nginx_with_tls():
+def test_the_desk_stands_behind_nginx_with_tls(desk):
     nginx()
     with tempfile.TemporaryDirectory() as place:
         folder = pathlib.Path(place)

@@ -4,16 +4,13 @@ import concurrent.futures
 import json
 import pathlib
 import re
-import select
 import socket
-import tempfile
-import time
 
-from desk_parts.shared import LINE, LONG, OWN, PATIENCE, TOWN, desk, fails, folder_for_days, inputs, test
+from desk_parts.events import Events
+from desk_parts.shared import LINE, LONG, OWN, PATIENCE, TOWN, folder_for_days, inputs
 
 
-@test
-def a_ride_from_asking_to_arrival():
+def test_a_ride_from_asking_to_arrival(desk):
     with desk(*inputs(LINE), *LONG) as it:
         asked = it.gives("POST", "/rides", {"from": 2, "to": 4, "persons": 2, "time": 0})
         assert asked == {"ride": 1, "from": 2, "to": 4, "reply": "accepted", "state": "waiting"}, asked
@@ -37,8 +34,7 @@ def a_ride_from_asking_to_arrival():
         assert (ride["state"], ride["drop_off_second"], ride["arrival_time"]) == ("delivered", pickup + 120, None), ride
 
 
-@test
-def batches_say_what_a_plan_is_worth():
+def test_batches_say_what_a_plan_is_worth(desk):
     with desk(*inputs(LINE), *LONG) as it:
         it.gives("POST", "/rides", {"from": 2, "to": 4, "time": 0})
         it.gives("POST", "/rides", {"from": 3, "to": 5, "time": 0})
@@ -56,8 +52,7 @@ def batches_say_what_a_plan_is_worth():
         assert it.call("GET", "/batches/2")[0] == 404
 
 
-@test
-def riders_and_vehicles_in_lists():
+def test_riders_and_vehicles_in_lists(desk):
     with desk(*inputs(LINE)) as it:
         it.gives("POST", "/rides", {"from": 2, "to": 4, "ride": OWN})
         assert it.gives("POST", "/rides", {"from": 2, "to": 4})["ride"] == 1
@@ -69,8 +64,7 @@ def riders_and_vehicles_in_lists():
         assert [(v["vehicle"], v["node"], v["max_capacity"]) for v in it.gives("GET", "/vehicles")] == [(1, 3, 4)]
 
 
-@test
-def places_become_the_nearest_nodes():
+def test_places_become_the_nearest_nodes(desk):
     with desk(*inputs(TOWN)) as it:
         ride = {"pickup_lat": 47.1999, "pickup_lon": 11.4999, "drop_off_lat": 47.2016, "drop_off_lon": 11.5006}
         asked = it.gives("POST", "/rides", ride)
@@ -82,8 +76,7 @@ def places_become_the_nearest_nodes():
         assert status == 422 and "no node lies within 500 metres" in answer["text"], answer
 
 
-@test
-def the_books_refusals_are_409_with_their_word():
+def test_the_books_refusals_are_409_with_their_word(desk):
     with desk(*inputs(LINE), *LONG) as it:
         ask = {"from": 2, "to": 4, "time": 0}
         it.gives("POST", "/rides", ask)
@@ -108,8 +101,7 @@ def the_books_refusals_are_409_with_their_word():
         it.refuses(409, "pool-full", "POST", "/rides", {"from": 1, "to": 2})
 
 
-@test
-def unknown_ones_are_404_and_bad_values_422():
+def test_unknown_ones_are_404_and_bad_values_422(desk):
     with desk(*inputs(LINE)) as it:
         for method, path, body in (
                 ("GET", "/rides/9", None), ("DELETE", "/rides/9", None), ("GET", "/vehicles/9", None),
@@ -147,8 +139,7 @@ def unknown_ones_are_404_and_bad_values_422():
         assert it.gives("GET", "/rides") == [] and (it.folder / "rows.csv").read_text().count("\n") == 1
 
 
-@test
-def other_sites_and_large_bodies_are_refused():
+def test_other_sites_and_large_bodies_are_refused(desk):
     with desk(*inputs(LINE)) as it:
         body = json.dumps({"from": 2, "to": 4})
         plain = {"content-type": "application/json"}
@@ -172,30 +163,27 @@ def other_sites_and_large_bodies_are_refused():
         assert it.call("POST", "/rides", raw=body, headers=own)[0] == 201
 
 
-@test
-def a_token_is_asked_of_each_writing_call():
-    with tempfile.TemporaryDirectory() as place:
-        file = pathlib.Path(place) / "token"
-        file.write_text("0123456789abcdef\n")
-        with desk(*inputs(LINE), f"token={file}", "host=0.0.0.0", "name=desk.example") as it:
-            calls = (("POST", "/rides", {"from": 2, "to": 4}), ("DELETE", "/rides/1", None), ("POST", "/seal", None),
-                     ("POST", "/vehicles/1/position", {"node": 1}), ("POST", "/vehicles/1/pickup", {"ride": 1}),
-                     ("POST", "/vehicles/1/dropoff", {"ride": 1}), ("GET", "/rides"), ("GET", "/network"), ("GET", "/events"))
-            for it.token in (None, "0123456789abcdeF", "0123456789abcde", "wrong"):
-                assert all(it.call(*call)[0] == 401 for call in calls)
-            it.token = "0123456789abcdef"
-            assert it.gives("GET", "/rides") == []
-            assert it.call("GET", "/rides", headers={"host": f"desk.example:{it.port}"})[0] == 200
-            assert it.gives("POST", "/rides", {"from": 2, "to": 4})["ride"] == 1
-            assert it.gives("GET", "/network")["needs_token"] is True
-        file.write_text("short")
-        fails("a token is one word of at least 16 letters", *inputs(LINE), f"token={file}")
+def test_a_token_is_asked_of_each_writing_call(desk, fails, tmp_path):
+    file = tmp_path / "token"
+    file.write_text("0123456789abcdef\n")
+    with desk(*inputs(LINE), f"token={file}", "host=0.0.0.0", "name=desk.example") as it:
+        calls = (("POST", "/rides", {"from": 2, "to": 4}), ("DELETE", "/rides/1", None), ("POST", "/seal", None),
+                 ("POST", "/vehicles/1/position", {"node": 1}), ("POST", "/vehicles/1/pickup", {"ride": 1}),
+                 ("POST", "/vehicles/1/dropoff", {"ride": 1}), ("GET", "/rides"), ("GET", "/network"), ("GET", "/events"))
+        for it.token in (None, "0123456789abcdeF", "0123456789abcde", "wrong"):
+            assert all(it.call(*call)[0] == 401 for call in calls)
+        it.token = "0123456789abcdef"
+        assert it.gives("GET", "/rides") == []
+        assert it.call("GET", "/rides", headers={"host": f"desk.example:{it.port}"})[0] == 200
+        assert it.gives("POST", "/rides", {"from": 2, "to": 4})["ride"] == 1
+        assert it.gives("GET", "/network")["needs_token"] is True
+    file.write_text("short")
+    fails("a token is one word of at least 16 letters", *inputs(LINE), f"token={file}")
     fails("host= needs tokens=FILE or token=FILE", *inputs(LINE), "host=0.0.0.0")
     fails("each name has to stand there in full", *inputs(LINE), "name=*.example")
 
 
-@test
-def faults_of_the_words_are_said_in_a_line():
+def test_faults_of_the_words_are_said_in_a_line(desk, fails):
     fails("no day began there; give network=, nodes= and fleet=")
     fails("unknown word colour=red", *inputs(LINE), "colour=red")
     fails("is not a whole number from 0 to 65535", *inputs(LINE), "port=-1")
@@ -222,35 +210,7 @@ def faults_of_the_words_are_said_in_a_line():
         fails("Address already in use", *inputs(LINE), f"port={taken.getsockname()[1]}")
 
 
-class Events:
-    """A stream of events that is read as it comes. What a slow machine may add to it is passed over."""
-
-    def __init__(self, it):
-        self.socket = socket.create_connection(("127.0.0.1", it.port), timeout=PATIENCE)
-        self.socket.sendall(f"GET /events HTTP/1.1\r\nhost: 127.0.0.1:{it.port}\r\n\r\n".encode())
-        self.text = b""
-
-    def next(self, kind, passing=("clock", "status", "places", "trouble", "notices")):
-        """The next event of this kind; only events of those kinds are passed over."""
-        end = time.monotonic() + PATIENCE
-        while time.monotonic() < end:
-            found = re.search(rb"event: (\w+)\ndata: (.*)\n\n", self.text)
-            if found is None:
-                assert select.select([self.socket], [], [], PATIENCE)[0], f"no event {kind}"
-                more = self.socket.recv(65_536)
-                assert more, f"the stream ended before an event {kind}"
-                self.text += more
-                continue
-            self.text = self.text[found.end():]
-            name = found.group(1).decode()
-            if name == kind:
-                return json.loads(found.group(2))
-            assert name in passing, (name, kind, found.group(2))
-        raise AssertionError(f"no event {kind}")
-
-
-@test
-def events_tell_the_state_then_each_reply_and_plan():
+def test_events_tell_the_state_then_each_reply_and_plan(desk):
     with desk(*inputs(LINE), *LONG) as it:
         it.gives("POST", "/rides", {"from": 2, "to": 4, "time": 0})
         events = Events(it)
@@ -269,8 +229,7 @@ def events_tell_the_state_then_each_reply_and_plan():
         assert len(plan["vehicles"][0]["stops"]) == 4, plan
 
 
-@test
-def ways_come_of_the_desk():
+def test_ways_come_of_the_desk(desk):
     with desk(*inputs(LINE)) as it:
         assert it.gives("GET", "/ways?pairs=1-4,3-3,4-2,2-4") == {"ways": [[1, 2, 3, 4], [3], [4, 3, 2], [2, 3, 4]]}
         for bad in ("", "1", "1-", "1-9", "1-2,", "a-b", ",".join(101 * ["1-2"])):
@@ -279,8 +238,7 @@ def ways_come_of_the_desk():
         assert it.call("GET", "/ways")[0] == 422
 
 
-@test
-def the_calls_describe_themselves_without_other_places():
+def test_the_calls_describe_themselves_without_other_places(desk):
     with desk(*inputs(LINE)) as it:
         paths = set(it.gives("GET", "/openapi.json")["paths"])
         wanted = {"/rides", "/rides/{number}", "/vehicles", "/vehicles/{number}", "/vehicles/{number}/stops",

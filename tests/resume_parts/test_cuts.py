@@ -2,27 +2,13 @@
 
 import random
 
-from live_parts.client import need
-from live_parts.drawn_rows import drawn_rows
-from live_parts.given import made_city, street
+from live_parts.given import made_city
 from resume_parts.day import Day
+from resume_parts.given import EXAMPLE, head_of, lanes_of
 from resume_parts.kept import Kept
 
-EXAMPLE = [
-    "0,0,submit,1,2,4,0",
-    "0,0,submit,2,3,5,0",
-    "0,0,seal,10,,,",
-    "1,0,report,1,1,20,",
-    "1,0,pickup,1,1,80,",
-    "1,0,cancel,3,,,",
-    "1,0,report,1,3,140,",
-]
-
-
-def cut_behind_every_byte(program, folder):
+def test_cut_behind_every_byte(day):
     """The example of `live`, cut behind each of its bytes. Within the head it is refused at the line where it ends."""
-    street(folder)
-    day = Day(program, folder, EXAMPLE)
     for count in range(len(day.report) + 1):
         torn = day.report[:count]
         if Kept(torn).has_head:
@@ -31,28 +17,11 @@ def cut_behind_every_byte(program, folder):
             day.refuses(torn, f"cut at line {torn.count(10) + 1}")
 
 
-def lanes_of(count, seed):
-    """Drawn rows of fifteen lanes on the street, which are in order and in form."""
-    rows, last = [], 0
-    for row in drawn_rows(count, seed):
-        fields = row.split(",")
-        if len(fields) == 7 and fields[0].isdigit() and int(fields[0]) >= last and int(fields[1]) < 16 and fields[2] != "jump":
-            rows.append(row)
-            last = int(fields[0])
-    return rows
-
-
-def lanes_cut_anywhere(program, folder, cuts, seed):
+def test_lanes_cut_anywhere(program, folder, cuts, seed):
     """A day in sixteen lanes, where rows go on beside open batches, cut at drawn bytes."""
-    street(folder)
     day, rng = Day(program, folder, lanes_of(400, seed)), random.Random(seed)
     for _ in range(cuts):
         day.goes_on(day.report[: rng.randrange(head_of(day.report), len(day.report))])
-
-
-def head_of(report):
-    """How many bytes the head has."""
-    return sum(len(line) + 1 for line in report.split(b"\n")[:4])
 
 
 def answered_beside(report):
@@ -76,12 +45,12 @@ def city_rows(nodes, batches, seed):
     return rows
 
 
-def beside_long_batches(program, folder, cuts, seed):
+def test_beside_long_batches(program, folder, cuts, seed):
     """Batches of a city, with rows of fifteen lanes beside them, cut at drawn bytes: half of the cuts lie before a close."""
     day, rng = Day(program, folder, city_rows(made_city(folder), 3, seed), "wait=300", "delay=400"), random.Random(seed)
-    need(answered_beside(day.report) > 50, f"only {answered_beside(day.report)} rows are answered beside open batches")
+    assert answered_beside(day.report) > 50, f"only {answered_beside(day.report)} rows are answered beside open batches"
     head, closes = head_of(day.report), [place for place in range(len(day.report)) if day.report.startswith(b" closed\n", place)]
-    for number in range(cuts):
+    for number in range(max(1, cuts // 8)):
         if number % 2:
             near = rng.choice(closes)
             day.goes_on(day.report[: rng.randint(max(head, near - 400), near)])
@@ -89,9 +58,8 @@ def beside_long_batches(program, folder, cuts, seed):
             day.goes_on(day.report[: rng.randint(head, len(day.report))])
 
 
-def reports_of_all_kinds(program, folder):
+def test_reports_of_all_kinds(program, folder):
     """Overflow, lapsed promises, dwell and parties: each report cut behind each of its lines, and within the last of them."""
-    street(folder)
     parties = ["0,0,submit,1,2,4,0,2", "0,0,submit,2,3,5,0,1", "0,0,seal,10,,,,", "1,0,report,1,5,600,,", "1,0,seal,700,,,,", "2,0,cancel,1,,,,"]
     for rows, words, told in [
         (EXAMPLE, ["pairs=1"], b"\noverflow"),
@@ -101,7 +69,7 @@ def reports_of_all_kinds(program, folder):
         (parties, ["dwell=20", "wait=7200", "delay=7200"], b"\nlapsed "),
     ]:
         day = Day(program, folder, rows, *words)
-        need(told in day.report, f"the report hasn't {told!r}")
+        assert told in day.report, f"the report hasn't {told!r}"
         ends = [place + 1 for place, byte in enumerate(day.report) if byte == 10]
         for end in ends[3:]:
             for count in end, end + 2:
@@ -110,26 +78,22 @@ def reports_of_all_kinds(program, folder):
                     day.goes_on(day.report[:count], "times=labels", "judge=1", "workers=1")
 
 
-def resumed_again_and_again(program, folder):
+def test_resumed_again_and_again(day):
     """A day that goes on from each of its reports, one row at a time, is the day of all rows."""
-    street(folder)
-    day = Day(program, folder, EXAMPLE)
     report = day.report[: head_of(day.report)]
     given = []
     for number, row in enumerate(EXAMPLE):
         given.append(f"{number},{row.split(',', 1)[1]}")
         ran = day.resume(report, given[-1:])
-        need(ran.returncode == 0, f"status {ran.returncode}, {ran.stderr!r} at row {number}")
+        assert ran.returncode == 0, f"status {ran.returncode}, {ran.stderr!r} at row {number}"
         report = ran.stdout
     audit = day.audit(report, given)
-    need(audit.returncode == 0, f"`audit` refuses it: {audit.stderr!r}")
+    assert audit.returncode == 0, f"`audit` refuses it: {audit.stderr!r}"
 
 
-def ends_without_rows(program, folder):
+def test_ends_without_rows(day):
     """A whole report goes on to itself where no row is left, and one of `run` goes on as well."""
-    street(folder)
-    day = Day(program, folder, EXAMPLE)
-    need(day.goes_on(day.report) == day.report, "another report of `live`")
+    assert day.goes_on(day.report) == day.report, "another report of `live`"
     (day.folder / "script.csv").write_text("\n".join(["round,lane,command,a,b,c,d", *EXAMPLE, ""]))
     ran = day.call("run", ["proof=1", f"script={day.folder}/script.csv"])
-    need(day.goes_on(ran.stdout) == ran.stdout, "another report of `run`")
+    assert day.goes_on(ran.stdout) == ran.stdout, "another report of `run`"

@@ -1,10 +1,8 @@
 """Tests of scripts and days that are run again, of made cities, and of how each tool starts."""
 
-import pathlib
 import re
 import shutil
 import subprocess
-import sys
 
 from tools_parts.shared import CASES, DATA, LINE, TOOLS, TOWN, refuses, works
 
@@ -21,9 +19,9 @@ def test_script_of_reports(folder):
     refuses("lanes=0 is not", "script_of", LINE / "two-riders.report", "lanes=0")
 
 
-def test_driven_days_run_again(folder):
+def test_driven_days_run_again(program, folder):
     """The script of a driven day's report: its run prints the same but for the line of the day, and audits confirm it."""
-    program, days = pathlib.Path(sys.argv[1]).resolve(), sorted(CASES.glob("day-*/stdout"))
+    days = sorted(CASES.glob("day-*/stdout"))
     assert len(days) >= 8, days
     for stdout in days:
         at = folder / stdout.parent.name
@@ -43,9 +41,8 @@ def test_driven_days_run_again(folder):
         assert audit.stdout.startswith("audit ok entries "), (at.name, audit)
 
 
-def test_a_town_day_by_each_number_of_workers(folder):
+def test_a_town_day_by_each_number_of_workers(program):
     """A driven day of six vehicles prints the same bytes for each number of workers, by rows and by labels."""
-    program = pathlib.Path(sys.argv[1]).resolve()
     inputs = [f"{name}={TOWN / name}.csv" for name in ("network", "fleet", "script")]
     ways = [[f"workers={n}", f"times={times}"] for n in (1, 2, 4, 64) for times in ("rows", "labels")]
     reports = {

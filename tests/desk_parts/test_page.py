@@ -1,55 +1,12 @@
 """Tests of the desk's page in a browser."""
 
 import concurrent.futures
-import contextlib
 import os
-import pathlib
-import shutil
 import signal
 import time
 
-from desk_parts.shared import LINE, LONG, PATIENCE, TOWN, desk, folder_for_days, held_desk, inputs, test, until
-from skips import Skipped
-
-
-@contextlib.contextmanager
-def page(it, width, height):
-    """The desk's page in a browser without a window, which must say nothing in its console."""
-    with opened(f"http://127.0.0.1:{it.port}/", width, height) as browser:
-        until(lambda: text_of(browser, "#status-text").startswith(("Ready", "Solving")), "the page is ready")
-        yield browser
-        said = browser.get_log("browser")
-        assert said == [], said
-
-
-@contextlib.contextmanager
-def opened(address, width, height):
-    """A browser without a window, on an address."""
-    try:
-        from selenium import webdriver
-        from selenium.webdriver.chrome.service import Service
-    except ImportError:
-        raise Skipped("there is no Selenium: apt-get install python3-selenium chromium-driver") from None
-    driver = shutil.which("chromedriver")
-    if driver is None:
-        raise Skipped("there is no browser: apt-get install chromium chromium-driver")
-    options = webdriver.ChromeOptions()
-    for word in ("headless=new", "no-sandbox", "disable-gpu", "disable-dev-shm-usage", f"window-size={width},{height}"):
-        options.add_argument("--" + word)
-    options.set_capability("goog:loggingPrefs", {"browser": "ALL"})
-    browser = webdriver.Chrome(service=Service(driver), options=options)
-    try:
-        browser.execute_cdp_cmd("Emulation.setDeviceMetricsOverride", {
-            "width": width, "height": height, "deviceScaleFactor": 1, "mobile": width < 500})
-        browser.get(address)
-        yield browser
-    finally:
-        browser.quit()
-
-
-def text_of(browser, selector):
-    """The text of the first element of a selector; empty where there is none."""
-    return browser.execute_script("return (document.querySelector(arguments[0]) || {textContent: ''}).textContent", selector)
+from desk_parts.browser import clicked, fits, keep_picture, opened, page, text_of
+from desk_parts.shared import LINE, LONG, PATIENCE, TOWN, inputs, until
 
 
 def watched(browser, selector, seen):
@@ -70,27 +27,8 @@ def click_node(browser, share_x, share_y):
     ActionChains(browser).move_to_element_with_offset(element, x, y).click().perform()
 
 
-def keep_picture(browser, name):
-    """Keeps a picture of the page where DESK_PICTURES names a folder."""
-    if os.environ.get("DESK_PICTURES"):
-        browser.save_screenshot(str(pathlib.Path(os.environ["DESK_PICTURES"]) / f"{name}.png"))
-
-
-def clicked(browser, selector):
-    """Clicks the first element of this selector; whether there was one."""
-    return browser.execute_script("const found = document.querySelector(arguments[0]);"
-                                  "if (found) found.click(); return Boolean(found)", selector)
-
-
-def fits(browser):
-    """Nothing may stand out to the side."""
-    wide, inner = browser.execute_script("return [document.documentElement.scrollWidth, innerWidth]")
-    assert wide <= inner, (wide, inner)
-
-
-@test
-def a_ride_asked_by_two_clicks_is_picked_up_and_delivered():
-    with folder_for_days() as folder, desk("demo", "riders=0", "every=20", folder=folder) as it:
+def test_a_ride_asked_by_two_clicks_is_picked_up_and_delivered(desk, folder):
+    with desk("demo", "riders=0", "every=20", folder=folder) as it:
         with page(it, 1280, 800) as browser:
             from selenium.webdriver.common.by import By
 
@@ -113,8 +51,7 @@ def a_ride_asked_by_two_clicks_is_picked_up_and_delivered():
             until(lambda: text_of(browser, "#count-delivered") == "1", "one is counted")
 
 
-@test
-def the_page_works_by_the_keyboard():
+def test_the_page_works_by_the_keyboard(desk):
     with desk(*inputs(TOWN)) as it, page(it, 1280, 800) as browser:
         from selenium.webdriver.common.action_chains import ActionChains
         from selenium.webdriver.common.keys import Keys
@@ -157,8 +94,7 @@ def stands_still(browser):
     return map_at(browser) == before
 
 
-@test
-def the_page_says_when_live_or_the_desk_ends():
+def test_the_page_says_when_live_or_the_desk_ends(desk):
     with desk(*inputs(LINE)) as it:
         with page(it, 390, 844) as browser:
             for turn in range(4):
@@ -176,21 +112,18 @@ def the_page_says_when_live_or_the_desk_ends():
             browser.get_log("browser")
 
 
-@test
-def the_page_says_that_the_desk_starts():
-    with folder_for_days() as folder:
-        with desk(*inputs(LINE), folder=folder) as it:
-            it.gives("POST", "/rides", {"from": 2, "to": 4})
-        with held_desk(folder) as (it, let_go), opened(f"http://127.0.0.1:{it.port}/", 390, 844) as browser:
-            until(lambda: "MB of the day so far" in text_of(browser, "#status-text"), "the start is shown")
-            fits(browser)
-            let_go()
-            until(lambda: text_of(browser, "#status-text").startswith("Ready"), "the page is ready")
-            until(lambda: "1" in text_of(browser, "#rides .list"), "the ride is shown")
+def test_the_page_says_that_the_desk_starts(desk, held_desk, folder):
+    with desk(*inputs(LINE), folder=folder) as it:
+        it.gives("POST", "/rides", {"from": 2, "to": 4})
+    with held_desk(folder) as (it, let_go), opened(f"http://127.0.0.1:{it.port}/", 390, 844) as browser:
+        until(lambda: "MB of the day so far" in text_of(browser, "#status-text"), "the start is shown")
+        fits(browser)
+        let_go()
+        until(lambda: text_of(browser, "#status-text").startswith("Ready"), "the page is ready")
+        until(lambda: "1" in text_of(browser, "#rides .list"), "the ride is shown")
 
 
-@test
-def trouble_stands_first_on_the_page():
+def test_trouble_stands_first_on_the_page(desk):
     with desk(*inputs(LINE), *LONG, "speed=10", "silent=0") as it:
         it.gives("POST", "/rides", {"from": 2, "to": 4, "time": 0})
         pickup = it.plan()["second"] + 60
@@ -232,8 +165,7 @@ def what_hangs_is_in_the_bar(it, browser):
     until(lambda: text_of(browser, "#trouble .list li .what").startswith("Vehicle 1 picks up"), "the late vehicle is first again")
 
 
-@test
-def the_sound_is_heard_at_new_trouble_alone():
+def test_the_sound_is_heard_at_new_trouble_alone(desk):
     with desk(*inputs(LINE), *LONG, "speed=10", "silent=1") as it, page(it, 1280, 800) as browser:
         browser.execute_script("window.tones = 0; const start = OscillatorNode.prototype.start;"
                                "OscillatorNode.prototype.start = function (at) { window.tones++; start.call(this, at); }")
@@ -251,9 +183,8 @@ def the_sound_is_heard_at_new_trouble_alone():
         until(lambda: late not in text_of(browser, "#trouble .list"), "no late vehicle")
 
 
-@test
-def the_page_fits_both_widths():
-    with folder_for_days() as folder, desk("demo", "speed=60", folder=folder) as it:
+def test_the_page_fits_both_widths(desk, folder):
+    with desk("demo", "speed=60", folder=folder) as it:
         until(lambda: it.call("GET", "/health")[1]["batches"] >= 12, "twelve plans")
         for width, height in ((1280, 800), (390, 844)):
             with page(it, width, height) as browser:
@@ -268,19 +199,17 @@ def the_page_fits_both_widths():
                 keep_picture(browser, f"chosen-{width}")
 
 
-@test
-def five_hundred_vehicles_and_a_thousand_riders_at_one_update_a_second():
-    with folder_for_days() as folder:
-        folder.parent.mkdir(exist_ok=True)
-        files = made_inputs(folder.parent)
-        with desk(*files, "trip=1", folder=folder) as it, page(it, 1280, 800) as browser:
-            browser.execute_script("document.getElementById('tab-vehicles').click()")
-            with concurrent.futures.ThreadPoolExecutor(8) as pool:
-                list(pool.map(lambda n: it.gives("POST", "/rides", {"from": 1 + n % 899, "to": 900}), range(1000)))
-                until(lambda: text_of(browser, "#count-waiting") == "1000", "all riders are shown")
-                waits = sorted(watched_round(it, browser, pool, turn) for turn in range(9))
-            print(f"  the page showed the last of 500 places after {waits[4]:.2f} s, at most after {waits[-1]:.2f} s")
-            assert waits[-1] < PATIENCE, waits
+def test_five_hundred_vehicles_and_a_thousand_riders_at_one_update_a_second(desk, folder):
+    folder.parent.mkdir(exist_ok=True)
+    files = made_inputs(folder.parent)
+    with desk(*files, "trip=1", folder=folder) as it, page(it, 1280, 800) as browser:
+        browser.execute_script("document.getElementById('tab-vehicles').click()")
+        with concurrent.futures.ThreadPoolExecutor(8) as pool:
+            list(pool.map(lambda n: it.gives("POST", "/rides", {"from": 1 + n % 899, "to": 900}), range(1000)))
+            until(lambda: text_of(browser, "#count-waiting") == "1000", "all riders are shown")
+            waits = sorted(watched_round(it, browser, pool, turn) for turn in range(9))
+        print(f"  the page showed the last of 500 places after {waits[4]:.2f} s, at most after {waits[-1]:.2f} s")
+        assert waits[-1] < PATIENCE, waits
 
 
 def made_inputs(place):

@@ -6,14 +6,13 @@ import os
 import pathlib
 import tempfile
 
-from desk_parts.page import fits, keep_picture, opened, page, text_of
-from desk_parts.shared import LINE, LONG, desk, inputs, test, until
+from desk_parts.browser import fits, keep_picture, opened, page, text_of
+from desk_parts.shared import LINE, LONG, inputs, until
 
 TOKYO = datetime.timezone(datetime.timedelta(hours=9))
 
 
-@test
-def a_shift_at_the_page():
+def test_a_shift_at_the_page(desk):
     with desk(*inputs(LINE), *LONG) as it, page(it, 1280, 800) as browser:
         from selenium.webdriver.common.action_chains import ActionChains
         from selenium.webdriver.common.by import By
@@ -91,8 +90,7 @@ def button(browser, text):
         "return [...document.querySelectorAll('#chosen button')].find(it => it.textContent === arguments[0])", text), text)
 
 
-@test
-def the_chosen_box_stays_under_the_pointer():
+def test_the_chosen_box_stays_under_the_pointer(desk):
     with desk(*inputs(LINE), *LONG, "speed=20", "silent=0") as it, page(it, 1280, 800) as browser:
         it.gives("POST", "/rides", {"from": 2, "to": 4, "time": 0})
         it.plan()
@@ -108,8 +106,7 @@ def the_chosen_box_stays_under_the_pointer():
         assert browser.execute_script("return arguments[0].isConnected", kept), "the box was built anew"
 
 
-@test
-def ten_tabs_follow_one_stream():
+def test_ten_tabs_follow_one_stream(desk):
     with desk(*inputs(LINE)) as it, opened(f"http://127.0.0.1:{it.port}/", 1280, 800) as browser:
         tabs = [browser.current_window_handle]
         for _ in range(9):
@@ -128,9 +125,8 @@ def ten_tabs_follow_one_stream():
         until(lambda: text_of(browser, "#count-waiting") == "2", "the tab that is left goes on")
 
 
-@test
-def times_are_those_of_the_desks_zone():
-    with desk_in("Asia/Tokyo") as it, page(it, 1280, 800) as browser:
+def test_times_are_those_of_the_desks_zone(desk):
+    with desk_in(desk, "Asia/Tokyo") as it, page(it, 1280, 800) as browser:
         until(lambda: shown_hour(browser) in near_hours(), "the hour in Tokyo")
         assert "Asia/Tokyo" in browser.find_element("id", "clock").get_attribute("title")
         wanted = datetime.datetime.now(TOKYO) + datetime.timedelta(hours=2)
@@ -143,7 +139,7 @@ def times_are_those_of_the_desks_zone():
 
 
 @contextlib.contextmanager
-def desk_in(zone):
+def desk_in(desk, zone):
     """A desk in a time zone, which the browser isn't in."""
     before = os.environ.get("TZ")
     os.environ["TZ"] = zone
@@ -168,8 +164,7 @@ def near_hours():
     return {f"{now - datetime.timedelta(minutes=it):%H}" for it in (0, 1)}
 
 
-@test
-def the_day_is_shown_and_saved():
+def test_the_day_is_shown_and_saved(desk):
     with tempfile.TemporaryDirectory() as folder, desk(*inputs(LINE), "wait=700", "delay=7200") as it:
         for origin in (2, 3):
             it.gives("POST", "/rides", {"from": origin, "to": 5})
@@ -189,8 +184,7 @@ def the_day_is_shown_and_saved():
                 until(lambda: path.exists() and path.read_text().count("\n") == lines, f"{name} is saved")
 
 
-@test
-def a_vehicles_way_is_the_desks():
+def test_a_vehicles_way_is_the_desks(desk):
     with desk(*inputs(LINE), *LONG) as it:
         it.gives("POST", "/rides", {"from": 2, "to": 4})
         it.plan()

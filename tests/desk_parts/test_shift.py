@@ -10,12 +10,11 @@ import pathlib
 import tempfile
 import threading
 
-from desk_parts.calls import Events
-from desk_parts.shared import LINE, LONG, TOWN, desk, fails, folder_for_days, inputs, test, until
+from desk_parts.events import Events
+from desk_parts.shared import LINE, LONG, TOWN, inputs, until
 
 
-@test
-def rides_vehicles_and_places_are_found():
+def test_rides_vehicles_and_places_are_found(desk):
     with desk(*inputs(LINE), *LONG) as it:
         it.gives("POST", "/rides", {"from": 2, "to": 4, "who": "Ada Lovelace", "phone": "+43 1 234"})
         it.gives("POST", "/rides", {"from": 3, "to": 4, "note": "with ada"})
@@ -30,8 +29,7 @@ def rides_vehicles_and_places_are_found():
         assert it.call("GET", "/search?q=")[0] == it.call("GET", "/search")[0] == 422
 
 
-@test
-def totals_say_what_a_day_came_to():
+def test_totals_say_what_a_day_came_to(desk):
     from ridepool.desk.totals import Trip, quantile, taken_by, totals_of
 
     assert [quantile(list(range(1, 101)), share) for share in (50, 99, 100)] == [50, 99, 100]
@@ -61,28 +59,26 @@ def totals_say_what_a_day_came_to():
         assert [(row["batch"], row["served"], row["left_out"], row["gap"]) for row in rows] == [("1", "1", "0", "0")], rows
 
 
-@test
-def a_vehicle_out_of_service_is_used_by_no_plan():
-    with folder_for_days() as folder:
-        with desk(*inputs(TOWN), *LONG, "trip=1", folder=folder) as it:
-            for number in range(8):
-                it.gives("POST", "/rides", {"from": 1 + number, "to": 40, "time": 0})
-            it.plan()
-            first = it.gives("GET", "/rides/1")["vehicle"]
-            for vehicle in range(1, 11):
-                if vehicle not in (first, 1 + first % 10):
-                    assert it.gives("POST", f"/vehicles/{vehicle}/break")["out"] is True
-            moved = it.gives("POST", f"/vehicles/{first}/break")["moved"]
-            assert 1 in moved, moved
-            it.plan()
-            used = {ride["vehicle"] for ride in it.gives("GET", "/rides?state=promised")}
-            assert used <= {1 + first % 10}, used
-            assert [v["vehicle"] for v in it.gives("GET", "/vehicles") if not v["out"]] == [1 + first % 10]
-            ended = it.gives("DELETE", f"/vehicles/{first}/break")
-            assert ended["out"] is False and ended["from"] > it.second(), ended
-        with desk(folder=folder) as it:
-            assert [v["vehicle"] for v in it.gives("GET", "/vehicles") if not v["out"]] == sorted([first, 1 + first % 10])
-            assert it.second() < 7200, "what is told of vehicles out of service moved the clock"
+def test_a_vehicle_out_of_service_is_used_by_no_plan(desk, folder):
+    with desk(*inputs(TOWN), *LONG, "trip=1", folder=folder) as it:
+        for number in range(8):
+            it.gives("POST", "/rides", {"from": 1 + number, "to": 40, "time": 0})
+        it.plan()
+        first = it.gives("GET", "/rides/1")["vehicle"]
+        for vehicle in range(1, 11):
+            if vehicle not in (first, 1 + first % 10):
+                assert it.gives("POST", f"/vehicles/{vehicle}/break")["out"] is True
+        moved = it.gives("POST", f"/vehicles/{first}/break")["moved"]
+        assert 1 in moved, moved
+        it.plan()
+        used = {ride["vehicle"] for ride in it.gives("GET", "/rides?state=promised")}
+        assert used <= {1 + first % 10}, used
+        assert [v["vehicle"] for v in it.gives("GET", "/vehicles") if not v["out"]] == [1 + first % 10]
+        ended = it.gives("DELETE", f"/vehicles/{first}/break")
+        assert ended["out"] is False and ended["from"] > it.second(), ended
+    with desk(folder=folder) as it:
+        assert [v["vehicle"] for v in it.gives("GET", "/vehicles") if not v["out"]] == sorted([first, 1 + first % 10])
+        assert it.second() < 7200, "what is told of vehicles out of service moved the clock"
     with desk(*inputs(LINE), *LONG) as it:
         it.gives("POST", "/rides", {"from": 2, "to": 4, "time": 0})
         second = it.plan()["second"] + 60
@@ -104,8 +100,7 @@ class Receiver(http.server.BaseHTTPRequestHandler):
         pass
 
 
-@test
-def notices_come_as_an_event_and_to_the_one_address():
+def test_notices_come_as_an_event_and_to_the_one_address(desk, fails):
     with tempfile.TemporaryDirectory() as place, http.server.HTTPServer(("127.0.0.1", 0), Receiver) as receiver:
         receiver.got = []
         threading.Thread(target=receiver.serve_forever, daemon=True).start()

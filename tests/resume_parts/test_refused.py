@@ -2,18 +2,14 @@
 
 import random
 
-from live_parts.client import need
-from live_parts.given import street
-from resume_parts.cuts import EXAMPLE, head_of
+from resume_parts.given import EXAMPLE, head_of
 from resume_parts.day import Day
 from resume_parts.kept import Kept, rows_of
 
 
-def reports_that_are_none(program, folder):
+def test_reports_that_are_none(day):
     """Heads of another network, another fleet, without trees or out of form; entries and blocks that are wrong; a day of
     `drive`; and that what stands behind the last whole entry isn't judged."""
-    street(folder)
-    day = Day(program, folder, EXAMPLE)
     lines = day.report.decode().split("\n")[:-1]
 
     def changed(number, line):
@@ -38,28 +34,24 @@ def reports_that_are_none(program, folder):
     ]:
         ran = day.resume(changed(number, line), [])
         said = ran.returncode, ran.stdout, ran.stderr.decode()
-        need(said == (13, b"", f"ridepool: report: {fault}\n"), f"{said}, and not {fault!r}, where line {number} is {line!r}")
+        assert said == (13, b"", f"ridepool: report: {fault}\n"), f"{said}, and not {fault!r}, where line {number} is {line!r}"
     for behind in b"done 99\n", b"done 3", b"x", b"8 0 close 2 closed\nbatch 2\nx y z\n", b"round 7\n", b"round 7\ndone 8\n":
         day.goes_on("".join(line + "\n" for line in lines[:-1]).encode() + behind)
 
 
-def rows_of_kept_rounds(program, folder):
+def test_rows_of_kept_rounds(day):
     """A row of a kept round goes back, and is skipped; so is one of an earlier round. The number of a dropped round is free."""
-    street(folder)
-    day = Day(program, folder, EXAMPLE)
     ran = day.resume(day.report, ["1,0,cancel,1,,,", "0,0,cancel,1,,,", "2,0,cancel,2,,,"])
     told = Kept(day.report).told() + "".join(f"ridepool: script: round goes back at row {number}\n" for number in (1, 2))
-    need((ran.returncode, ran.stderr.decode()) == (0, told), f"{ran.returncode}, {ran.stderr!r}, and not {told!r}")
-    need(ran.stdout.endswith(b"round 2\n8 0 cancel 2 cancelled\ndone 9\n"), f"another end: {ran.stdout[-80:]!r}")
+    assert (ran.returncode, ran.stderr.decode()) == (0, told), f"{ran.returncode}, {ran.stderr!r}, and not {told!r}"
+    assert ran.stdout.endswith(b"round 2\n8 0 cancel 2 cancelled\ndone 9\n"), f"another end: {ran.stdout[-80:]!r}"
     torn = day.report[: day.report.index(b"round 1\n") + 8]
     ran = day.resume(torn, ["1,0,cancel,2,,,"])
-    need(ran.returncode == 0 and ran.stdout.endswith(b"round 1\n4 0 cancel 2 cancelled\ndone 5\n"), f"{ran.stderr!r}, {ran.stdout[-80:]!r}")
+    assert ran.returncode == 0 and ran.stdout.endswith(b"round 1\n4 0 cancel 2 cancelled\ndone 5\n"), f"{ran.stderr!r}, {ran.stdout[-80:]!r}"
 
 
-def words_that_are_wrong(program, folder):
+def test_words_that_are_wrong(day):
     """Words are judged first, then network and fleet, the report, and the header; nothing is written then."""
-    street(folder)
-    day = Day(program, folder, EXAMPLE)
     (day.folder / "day").write_bytes(day.report)
     report = f"report={day.folder}/day"
     rows = "round,lane,command,a,b,c,d\n"
@@ -76,12 +68,11 @@ def words_that_are_wrong(program, folder):
     ]:
         ran = day.call("resume", words, given)
         said = ran.returncode, ran.stdout, ran.stderr.decode()
-        need(said == (status, b"", f"ridepool: {line}\n"), f"{said}, and not {line!r}, for {words}")
+        assert said == (status, b"", f"ridepool: {line}\n"), f"{said}, and not {line!r}, for {words}"
 
 
-def notices_are_told_again(program, folder):
+def test_notices_are_told_again(program, folder):
     """Those of the last kept block come first, and then those of later ones; behind an overflow nothing is told again."""
-    street(folder)
     for words, again in ([], True), (["pairs=1"], False):
         day = Day(program, folder, EXAMPLE, *words)
         told, told_of = day.folder / "told", "batch 1 "
@@ -89,30 +80,29 @@ def notices_are_told_again(program, folder):
             kept = Kept(day.report[:count])
             told.unlink(missing_ok=True)
             ran = day.resume(day.report[:count], kept.parted(EXAMPLE)[1], f"notices={told}")
-            need(ran.returncode == 0, f"status {ran.returncode}, {ran.stderr!r}")
+            assert ran.returncode == 0, f"status {ran.returncode}, {ran.stderr!r}"
             lines = told.read_text().splitlines() if told.exists() else []
-            need(bool(lines) == again and all(line.startswith(told_of) for line in lines), f"told behind {count} bytes: {lines}")
+            assert bool(lines) == again and all(line.startswith(told_of) for line in lines), f"told behind {count} bytes: {lines}"
 
 
-def spoiled_reports(program, folder, changes, seed):
+def test_spoiled_reports(day, cuts, seed):
     """One byte of the kept part is another: with `judge=1` it is refused where an audit of its own rows refuses it, and with
     `judge=0` what is taken has a wrong batch at worst."""
-    street(folder)
-    day, rng = Day(program, folder, EXAMPLE), random.Random(seed)
+    rng = random.Random(seed)
     kept = Kept(day.report).text
-    for _ in range(changes):
+    for _ in range(cuts):
         place = rng.randrange(head_of(kept), len(kept))
         byte = rng.choice(b"0123456789 \nabcdt:@")
         spoiled = kept[:place] + bytes([byte]) + kept[place + 1 :]
         judged, told = day.resume(spoiled, [], "judge=1"), day.resume(spoiled, [])
         if judged.returncode == 0:
-            need(told.stdout == judged.stdout, f"judged otherwise: byte {place} is {byte}")
+            assert told.stdout == judged.stdout, f"judged otherwise: byte {place} is {byte}"
             audit = day.audit(judged.stdout, rows_of(judged.stdout))
-            need(audit.returncode == 0, f"`audit` refuses what `judge=1` takes: {audit.stderr!r}, byte {place} is {byte}")
+            assert audit.returncode == 0, f"`audit` refuses what `judge=1` takes: {audit.stderr!r}, byte {place} is {byte}"
         else:
-            need(judged.returncode == 13 and not judged.stdout, f"status {judged.returncode}, byte {place} is {byte}")
+            assert judged.returncode == 13 and not judged.stdout, f"status {judged.returncode}, byte {place} is {byte}"
             rows = rows_of(spoiled)
             audit = rows and day.audit(spoiled + b"done 8\n", rows)
-            need(not audit or audit.returncode != 0, f"`audit` takes what `judge=1` refuses: {judged.stderr!r}, byte {place} is {byte}")
+            assert not audit or audit.returncode != 0, f"`audit` takes what `judge=1` refuses: {judged.stderr!r}, byte {place} is {byte}"
             taken = told.returncode == 0
-            need(not taken or b"wrong batch" in judged.stderr, f"`judge=0` takes {judged.stderr!r}, byte {place} is {byte}")
+            assert not taken or b"wrong batch" in judged.stderr, f"`judge=0` takes {judged.stderr!r}, byte {place} is {byte}"

@@ -8,23 +8,21 @@ import sys
 import tempfile
 
 import make_sumo_day
+import pytest
 from ridepool import words
-from desk_parts import shared
-from desk_parts.shared import TOOLS, audited, test
-from skips import Skipped
+from desk_parts.shared import TOOLS
 
 
-@test
-def a_simulations_taxis_are_dispatched():
+def test_a_simulations_taxis_are_dispatched(program, audited):
     if shutil.which("sumo") is None or words.missing_modules(["traci", "sumolib"]):
-        raise Skipped("there is no SUMO: apt-get install sumo sumo-tools")
+        pytest.skip("there is no SUMO: apt-get install sumo sumo-tools")
     with tempfile.TemporaryDirectory(prefix="desk-test-") as folder:
         place = pathlib.Path(folder)
         make_sumo_day.make_day(place)
         own = not words.missing_modules(["pulp"])
         call = [sys.executable, str(TOOLS / "sumo_client.py"), str(place / "day.sumocfg"), "wait=600", "delay=900",
                 f"network={place}/town/network.csv", f"nodes={place}/town/nodes.csv", f"own={int(own)}", "proof=1",
-                f"transcript={place}/transcript", f"fleet={place}/fleet.csv", f"program={shared.PROGRAM}"]
+                f"transcript={place}/transcript", f"fleet={place}/fleet.csv", f"program={program}"]
         done = subprocess.run(call, capture_output=True, text=True)
         assert done.returncode == 0, done.stderr
         lines = done.stdout.splitlines()
@@ -32,14 +30,14 @@ def a_simulations_taxis_are_dispatched():
         assert not own or lines[2].startswith("drtOnline.py: served "), done.stdout
         wait, worst = map(int, re.search(r"wait (\d+) s, at most (\d+) s", lines[0]).groups())
         assert 0 < wait <= worst <= 700, lines[0]
-        confirmed(place)
+        confirmed(place, audited)
         fleet = (place / "fleet.csv").read_text()
         again = subprocess.run(call, capture_output=True, text=True)
         assert again.returncode == 2 and "a file is there already" in again.stderr, again
         assert (place / "fleet.csv").read_text() == fleet
 
 
-def confirmed(place):
+def confirmed(place, audited):
     """The simulation's transcript must be that of a run of its rows."""
     from ridepool.sessions.rows import HEADER, entrys_row
     from ridepool.sessions.state import Lines

@@ -7,11 +7,9 @@ import socket
 import tempfile
 import threading
 
-from desk_parts.page import fits, keep_picture, opened, text_of
-from desk_parts.roles import made
-from desk_parts.shared import LINE, LONG, TOWN, desk, inputs, test, until
-
-WIDE, HIGH = 390, 844
+from desk_parts.browser import HIGH, WIDE, fits, keep_picture, opened, text_of
+from desk_parts.shared import LINE, LONG, TOWN, inputs, until
+from desk_parts.tokens import made
 
 
 class Line:
@@ -58,7 +56,7 @@ class Line:
 
 
 @contextlib.contextmanager
-def desk_on_a_line(*words):
+def desk_on_a_line(desk, *words):
     """A desk with tokens, behind a line: the desk, the line, and the tokens of vehicle 1 and ride 1."""
     line = Line()
     with tempfile.TemporaryDirectory() as folder:
@@ -103,9 +101,8 @@ def log_of(it, path):
     return [line["status"] for line in lines if line["path"] == path]
 
 
-@test
-def a_driver_makes_a_whole_trip_on_a_line_that_is_cut_twice():
-    with desk_on_a_line(*inputs(LINE)) as (it, line, driver, _):
+def test_a_driver_makes_a_whole_trip_on_a_line_that_is_cut_twice(desk):
+    with desk_on_a_line(desk, *inputs(LINE)) as (it, line, driver, _):
         it.gives("POST", "/rides", {"from": 2, "to": 4, "persons": 2, "time": 0, "who": "Ada", "phone": "+43 1 2", "note": "a dog"})
         it.gives("POST", "/rides", {"from": 3, "to": 5, "time": 0})
         it.plan()
@@ -144,9 +141,8 @@ def a_driver_makes_a_whole_trip_on_a_line_that_is_cut_twice():
         assert text.count(" pickup ") == text.count(" dropoff ") == 2 and " refused " not in text, text
 
 
-@test
-def a_rider_who_is_not_there_is_cancelled_by_the_keyboard():
-    with desk_on_a_line(*inputs(LINE)) as (it, line, driver, _):
+def test_a_rider_who_is_not_there_is_cancelled_by_the_keyboard(desk):
+    with desk_on_a_line(desk, *inputs(LINE)) as (it, line, driver, _):
         it.gives("POST", "/rides", {"from": 2, "to": 4, "time": 0})
         it.plan()
         with opened(f"http://127.0.0.1:{line.port}/drive", WIDE, HIGH) as browser:
@@ -179,8 +175,7 @@ def a_rider_who_is_not_there_is_cancelled_by_the_keyboard():
         it.refuses(409, "not-promised", "POST", "/vehicles/1/noshow", {"ride": 2})
 
 
-@test
-def a_phone_tells_where_it_is():
+def test_a_phone_tells_where_it_is(desk):
     with desk(*inputs(TOWN), *LONG) as it, opened(f"http://127.0.0.1:{it.port}/drive?vehicle=3", WIDE, HIGH) as browser:
         says(browser, "#title", "Vehicle 3")
         browser.execute_cdp_cmd("Browser.grantPermissions", {"permissions": ["geolocation"]})
@@ -191,9 +186,8 @@ def a_phone_tells_where_it_is():
         assert browser.get_log("browser") == []
 
 
-@test
-def a_rider_sees_the_vehicle_come_and_cancels():
-    with desk_on_a_line(*inputs(TOWN)) as (it, line, _, rider):
+def test_a_rider_sees_the_vehicle_come_and_cancels(desk):
+    with desk_on_a_line(desk, *inputs(TOWN)) as (it, line, _, rider):
         it.gives("POST", "/rides", {"from": 1, "to": 40, "persons": 2, "time": 0})
         with opened(f"http://127.0.0.1:{line.port}/ride/1#token={rider}", WIDE, HIGH) as browser:
             says(browser, "#state", "We look for a vehicle")
@@ -219,24 +213,21 @@ def a_rider_sees_the_vehicle_come_and_cancels():
         assert it.gives("GET", "/rides/1")["state"] == "cancelled"
 
 
-@test
-def riders_names_stand_in_no_row_and_are_deleted_by_a_call():
-    with tempfile.TemporaryDirectory() as place:
-        folder = pathlib.Path(place) / "day"
-        with desk(*inputs(LINE), folder=folder) as it:
-            it.gives("POST", "/rides", {"from": 2, "to": 4, "who": "Ada Lovelace", "note": "a \u2713"})
-            it.gives("POST", "/rides", {"from": 2, "to": 4})
-            assert it.gives("GET", "/rides/1/contact") == {"who": "Ada Lovelace", "phone": None, "note": "a \u2713"}
-            assert it.gives("GET", "/rides/2/contact") == {"who": None, "phone": None, "note": None}
-            it.gives("POST", "/rides/2/contact", {"phone": "+43 1 234"})
-            assert it.call("POST", "/rides", {"from": 2, "to": 4, "who": "x" * 201})[0] == 422
-            assert it.call("POST", "/rides/2/contact", {"phone": 7})[0] == 422
-        with desk(folder=folder) as it:
-            assert it.gives("GET", "/rides/1/contact")["who"] == "Ada Lovelace"
-            assert it.gives("DELETE", "/rides/1/contact") == {"deleted": True}
-            assert it.call("DELETE", "/rides/1/contact")[1] == {"deleted": False}
-            assert it.gives("GET", "/rides/1/contact")["who"] is None
-            assert it.gives("GET", "/rides/2/contact")["phone"] == "+43 1 234"
-        found = [path.name for path in folder.iterdir() if "Lovelace" in path.read_text() or "+43 1 234" in path.read_text()]
-        assert found == ["contacts.jsonl"] and "Lovelace" not in (folder / "contacts.jsonl").read_text(), found
-        assert (folder / "contacts.jsonl").stat().st_mode & 0o077 == 0
+def test_riders_names_stand_in_no_row_and_are_deleted_by_a_call(desk, folder):
+    with desk(*inputs(LINE), folder=folder) as it:
+        it.gives("POST", "/rides", {"from": 2, "to": 4, "who": "Ada Lovelace", "note": "a \u2713"})
+        it.gives("POST", "/rides", {"from": 2, "to": 4})
+        assert it.gives("GET", "/rides/1/contact") == {"who": "Ada Lovelace", "phone": None, "note": "a \u2713"}
+        assert it.gives("GET", "/rides/2/contact") == {"who": None, "phone": None, "note": None}
+        it.gives("POST", "/rides/2/contact", {"phone": "+43 1 234"})
+        assert it.call("POST", "/rides", {"from": 2, "to": 4, "who": "x" * 201})[0] == 422
+        assert it.call("POST", "/rides/2/contact", {"phone": 7})[0] == 422
+    with desk(folder=folder) as it:
+        assert it.gives("GET", "/rides/1/contact")["who"] == "Ada Lovelace"
+        assert it.gives("DELETE", "/rides/1/contact") == {"deleted": True}
+        assert it.call("DELETE", "/rides/1/contact")[1] == {"deleted": False}
+        assert it.gives("GET", "/rides/1/contact")["who"] is None
+        assert it.gives("GET", "/rides/2/contact")["phone"] == "+43 1 234"
+    found = [path.name for path in folder.iterdir() if "Lovelace" in path.read_text() or "+43 1 234" in path.read_text()]
+    assert found == ["contacts.jsonl"] and "Lovelace" not in (folder / "contacts.jsonl").read_text(), found
+    assert (folder / "contacts.jsonl").stat().st_mode & 0o077 == 0

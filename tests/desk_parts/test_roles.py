@@ -1,14 +1,11 @@
 """Tests of who may do what: tokens with roles, and the log of calls."""
 
-import contextlib
 import json
-import pathlib
 import socket
-import subprocess
-import sys
-import tempfile
 
-from desk_parts.shared import LINE, LONG, PATIENCE, TOOLS, desk, fails, inputs, test
+import pytest
+from desk_parts.shared import LINE, LONG, PATIENCE, inputs
+from desk_parts.tokens import made, token
 
 CALLS = {
     ("GET", "/rides"): "dispatcher reader",
@@ -56,32 +53,21 @@ CALLS = {
 }
 
 
-def token(path, *words):
-    """What `token` prints on the two streams."""
-    call = [sys.executable, str(TOOLS / "desk.py"), "token", f"tokens={path}", *words]
-    done = subprocess.run(call, capture_output=True, text=True)
-    return done.returncode, done.stdout, done.stderr
+@pytest.fixture
+def path(tmp_path):
+    """Where a file of tokens may stand."""
+    return tmp_path / "tokens"
 
 
-def made(path, *words):
-    """A new token."""
-    status, out, errors = token(path, *words)
-    assert status == 0 and len(out.strip()) >= 32, (words, out, errors)
-    return out.strip()
+@pytest.fixture
+def tokens(path):
+    """A token of each role by its role, in a file."""
+    words = {"dispatcher": (), "reader": (), "driver": ("vehicle=1",), "rider": ("ride=1",)}
+    return {role: made(path, f"role={role}", *more) for role, more in words.items()}
 
 
-@contextlib.contextmanager
-def tokens_of_all_roles():
-    """The path of a file with a token of each role, and the tokens by role."""
-    with tempfile.TemporaryDirectory() as folder:
-        path = pathlib.Path(folder) / "tokens"
-        words = {"dispatcher": (), "reader": (), "driver": ("vehicle=1",), "rider": ("ride=1",)}
-        yield path, {role: made(path, f"role={role}", *more) for role, more in words.items()}
-
-
-@test
-def each_role_may_call_what_is_its_own():
-    with tokens_of_all_roles() as (path, tokens), desk(*inputs(LINE), f"tokens={path}") as it:
+def test_each_role_may_call_what_is_its_own(desk, path, tokens):
+    with desk(*inputs(LINE), f"tokens={path}") as it:
         for (method, place), roles in CALLS.items():
             for role in (*tokens, "nobody"):
                 it.token = tokens.get(role)
@@ -94,9 +80,8 @@ def each_role_may_call_what_is_its_own():
         assert it.gives("GET", "/me") == {"role": "driver", "vehicle": 1, "ride": None}
 
 
-@test
-def a_driver_and_a_rider_do_a_whole_trip():
-    with tokens_of_all_roles() as (path, tokens), desk(*inputs(LINE), *LONG, f"tokens={path}") as it:
+def test_a_driver_and_a_rider_do_a_whole_trip(desk, path, tokens):
+    with desk(*inputs(LINE), *LONG, f"tokens={path}") as it:
         it.token = tokens["dispatcher"]
         it.gives("POST", "/rides", {"from": 2, "to": 4, "time": 0})
         it.gives("POST", "/rides", {"from": 3, "to": 5, "time": 0})
@@ -131,9 +116,8 @@ def read_until(stream, text, holds):
     return text
 
 
-@test
-def a_token_is_withdrawn_while_the_desk_runs():
-    with tokens_of_all_roles() as (path, tokens), desk(*inputs(LINE), f"tokens={path}") as it:
+def test_a_token_is_withdrawn_while_the_desk_runs(desk, path, tokens):
+    with desk(*inputs(LINE), f"tokens={path}") as it:
         assert not any(it in path.read_text() for it in tokens.values()), "a token stands in the file"
         assert path.stat().st_mode & 0o077 == 0
         lines = token(path)[1].splitlines()
@@ -162,26 +146,22 @@ def a_token_is_withdrawn_while_the_desk_runs():
         assert it.call("GET", "/rides")[0] == 401
 
 
-@test
-def faults_of_tokens_are_said_in_a_line():
-    with tempfile.TemporaryDirectory() as folder:
-        path = pathlib.Path(folder) / "tokens"
-        for words, text in ((("role=driver",), "a driver's token needs vehicle="), (("role=king",), "role=king is none of"),
-                            (("role=rider", "vehicle=1"), "a rider's token needs ride="),
-                            (("role=reader", "vehicle=1"), "a reader has no vehicle="),
-                            (("role=driver", "vehicle=x"), "is not a whole number"), (("withdraw=x",), "there is no token x"),
-                            (("colour=red",), "unknown word colour=red")):
-            status, out, errors = token(path, *words)
-            assert status == 2 and text in errors and out == "", (words, status, out, errors)
-        assert not path.exists()
-        path.write_text("{}\n")
-        assert token(path)[0] == 2
-        fails("line 1 is not that of a token", *inputs(LINE), f"tokens={path}")
-        fails("No such file", *inputs(LINE), f"tokens={folder}/none")
+def test_faults_of_tokens_are_said_in_a_line(fails, path):
+    for words, text in ((("role=driver",), "a driver's token needs vehicle="), (("role=king",), "role=king is none of"),
+                        (("role=rider", "vehicle=1"), "a rider's token needs ride="),
+                        (("role=reader", "vehicle=1"), "a reader has no vehicle="),
+                        (("role=driver", "vehicle=x"), "is not a whole number"), (("withdraw=x",), "there is no token x"),
+                        (("colour=red",), "unknown word colour=red")):
+        status, out, errors = token(path, *words)
+        assert status == 2 and text in errors and out == "", (words, status, out, errors)
+    assert not path.exists()
+    path.write_text("{}\n")
+    assert token(path)[0] == 2
+    fails("line 1 is not that of a token", *inputs(LINE), f"tokens={path}")
+    fails("No such file", *inputs(LINE), f"tokens={path.parent}/none")
 
 
-@test
-def a_desk_without_tokens_takes_all_calls_of_this_machine():
+def test_a_desk_without_tokens_takes_all_calls_of_this_machine(desk):
     with desk(*inputs(LINE)) as it:
         assert it.gives("GET", "/me") == {"role": "dispatcher", "vehicle": None, "ride": None}
         it.gives("POST", "/rides", {"from": 2, "to": 4})

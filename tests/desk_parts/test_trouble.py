@@ -9,17 +9,18 @@ import subprocess
 import sys
 import time
 
-from desk_parts import shared
-from desk_parts.shared import LINE, LONG, PATIENCE, TOP, desk, folder_for_days, inputs, test, until
+import pytest
+from desk_parts.shared import LINE, LONG, PATIENCE, WITH_PACKAGE, inputs, until
 
 
-def book(*words):
-    """A `live` on the line with one vehicle, without a desk."""
+@pytest.fixture
+def book(program):
+    """Begins a `live` on the line with one vehicle, without a desk: `book(*words)`."""
     from ridepool.sessions.client import Client
     from ridepool.sessions.state import Vehicle
 
     files = [f"network={LINE}/network.csv", f"fleet={LINE}/fleet.csv"]
-    return Client(shared.PROGRAM, [*files, *words], [Vehicle(1, 4, 1, 0)])
+    return lambda *words: Client(program, [*files, *words], [Vehicle(1, 4, 1, 0)])
 
 
 def found(client, now, silent=0):
@@ -29,8 +30,7 @@ def found(client, now, silent=0):
     return [(it.kind, it.ride, it.vehicle, now - it.second) for it in Watch(30, silent).found(client.state, now)]
 
 
-@test
-def trouble_is_sorted_by_its_urgency():
+def test_trouble_is_sorted_by_its_urgency(book):
     client = book("wait=200", "delay=300")
     assert client.ask("submit", 1, 2, 4, 0) == client.ask("submit", 2, 5, 1, 40, party=4) == "accepted"
     client.plan(40)
@@ -49,8 +49,7 @@ def trouble_is_sorted_by_its_urgency():
     client.end()
 
 
-@test
-def a_stop_that_is_made_is_no_trouble():
+def test_a_stop_that_is_made_is_no_trouble(book):
     client = book("wait=200", "delay=300")
     client.ask("submit", 1, 2, 4, 0)
     client.plan(0)
@@ -62,8 +61,7 @@ def a_stop_that_is_made_is_no_trouble():
     client.end()
 
 
-@test
-def a_promise_that_lapsed_and_a_late_vehicle_are_told():
+def test_a_promise_that_lapsed_and_a_late_vehicle_are_told(book):
     client = book("wait=200", "delay=60")
     client.ask("submit", 1, 2, 4, 0)
     client.plan(0)
@@ -79,8 +77,7 @@ def a_promise_that_lapsed_and_a_late_vehicle_are_told():
     client.end()
 
 
-@test
-def an_overflow_says_that_nothing_was_planned():
+def test_an_overflow_says_that_nothing_was_planned(book):
     from ridepool.desk.trouble import Watch
 
     client = book("wait=200", "delay=300", "pairs=1")
@@ -91,8 +88,7 @@ def an_overflow_says_that_nothing_was_planned():
     client.end()
 
 
-@test
-def an_overdue_pickup_is_late_in_each_call():
+def test_an_overdue_pickup_is_late_in_each_call(desk):
     with desk(*inputs(LINE), *LONG, "speed=50", "silent=1") as it:
         it.gives("POST", "/rides", {"from": 2, "to": 4, "time": 0})
         pickup = it.plan()["second"] + 60
@@ -114,8 +110,7 @@ def tells_of_a_stop(it):
             and trouble[:1] and (trouble[0]["kind"], trouble[0]["text"]) == ("hangs", health["why"]))
 
 
-@test
-def a_dispatcher_that_does_not_answer_is_told():
+def test_a_dispatcher_that_does_not_answer_is_told(desk):
     with desk(*inputs(LINE), *LONG) as it, concurrent.futures.ThreadPoolExecutor(1) as pool:
         assert it.gives("GET", "/trouble")["count"] == 0
         os.kill(it.live(), signal.SIGSTOP)
@@ -128,8 +123,7 @@ def a_dispatcher_that_does_not_answer_is_told():
 
 
 DIES = """
-import asyncio, sys
-sys.path.insert(0, {place!r})
+import asyncio
 from ridepool.desk import command, dispatcher
 async def dies(self):
     await asyncio.sleep(1)
@@ -139,59 +133,51 @@ command.main()
 """
 
 
-@test
-def a_background_task_that_dies_ends_the_desk():
-    with folder_for_days() as folder:
-        call = [sys.executable, "-c", DIES.format(place=str(TOP / "python")), *inputs(LINE), f"day={folder}", "port=0",
-                f"program={shared.PROGRAM}"]
-        done = subprocess.run(call, capture_output=True, text=True, timeout=5 * PATIENCE)
-        assert done.returncode == 1 and done.stderr.endswith("RuntimeError: this task died\n"), done
-        assert "Traceback" in done.stderr and (folder / "transcript").read_text().endswith("done 0\n"), done
+def test_a_background_task_that_dies_ends_the_desk(program, folder):
+    call = [sys.executable, "-c", DIES, *inputs(LINE), f"day={folder}", "port=0", f"program={program}"]
+    done = subprocess.run(call, capture_output=True, text=True, timeout=5 * PATIENCE, env=WITH_PACKAGE)
+    assert done.returncode == 1 and done.stderr.endswith("RuntimeError: this task died\n"), done
+    assert "Traceback" in done.stderr and (folder / "transcript").read_text().endswith("done 0\n"), done
 
 
-@test
-def the_clock_never_goes_behind_the_transcript():
+def test_the_clock_never_goes_behind_the_transcript(desk, folder):
     def shift(folder, seconds):
         path = folder / "day.json"
         path.write_text(json.dumps({**(day := json.loads(path.read_text())), "began": day["began"] + seconds}))
 
-    with folder_for_days() as folder:
-        with desk(*inputs(LINE), folder=folder) as it:
-            it.gives("POST", "/vehicles/1/position", {"node": 2})
-        shift(folder, -21_600)
-        with desk(folder=folder) as it:
-            it.gives("POST", "/vehicles/1/position", {"node": 3})
-        shift(folder, 21_600)
-        with desk(folder=folder) as it:
-            assert it.gives("GET", "/health")["second"] >= 21_600
-            assert any("s behind the day's last second" in line for line in it.said), it.said
-            it.gives("POST", "/vehicles/1/position", {"node": 2})
+    with desk(*inputs(LINE), folder=folder) as it:
+        it.gives("POST", "/vehicles/1/position", {"node": 2})
+    shift(folder, -21_600)
+    with desk(folder=folder) as it:
+        it.gives("POST", "/vehicles/1/position", {"node": 3})
+    shift(folder, 21_600)
+    with desk(folder=folder) as it:
+        assert it.gives("GET", "/health")["second"] >= 21_600
+        assert any("s behind the day's last second" in line for line in it.said), it.said
+        it.gives("POST", "/vehicles/1/position", {"node": 2})
 
 
-@test
-def the_trouble_is_told_at_once_where_the_dispatcher_ended():
+def test_the_trouble_is_told_at_once_where_the_dispatcher_ended(program, folder):
     from ridepool.desk.dispatcher import Clock, Dispatcher
     from ridepool.desk.folder import Folder
     from ridepool.desk.trouble import Watch
 
     async def told(folder):
-        it = Dispatcher(shared.PROGRAM, [], Folder(folder), list, Clock(time.time(), 1), Watch(30, 0))
+        it = Dispatcher(program, [], Folder(folder), list, Clock(time.time(), 1), Watch(30, 0))
         it.set_status("starting", "live ended; it is started again")
         it.look()
         queue = it.listen()
         it.give_up("live ended")
         return [queue.get_nowait().split("\n")[:2] for _ in range(queue.qsize())]
 
-    with folder_for_days() as folder:
-        found = asyncio.run(told(folder))
+    found = asyncio.run(told(folder))
     values = {kind: json.loads(value.partition(": ")[2]) for kind, value in found}
     assert [kind for kind, _ in found] == ["event: state", "event: status", "event: trouble"], found
     assert values["event: status"]["why"] == "live ended", found
     assert [(it["kind"], it["text"]) for it in values["event: trouble"]["trouble"]] == [("hangs", "live ended")], found
 
 
-@test
-def a_little_lead_of_a_vehicle_moves_no_clock():
+def test_a_little_lead_of_a_vehicle_moves_no_clock():
     from ridepool.desk.book import Book
     from ridepool.sessions.rows import entrys_row
     from ridepool.sessions.state import Vehicle
@@ -211,8 +197,7 @@ def a_little_lead_of_a_vehicle_moves_no_clock():
     assert Book([]).seconds.last(50, 900) == 0
 
 
-@test
-def a_mistake_is_taken_back_where_the_book_allows_it():
+def test_a_mistake_is_taken_back_where_the_book_allows_it(desk):
     with desk(*inputs(LINE), *LONG) as it:
         it.refuses(409, "no-mistake", "POST", "/vehicles/1/mistake")
         it.gives("POST", "/vehicles/1/position", {"node": 4})

@@ -1,0 +1,1 @@
+"""Tests of the tools that look at the sources, on small crates."""

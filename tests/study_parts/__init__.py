@@ -1,0 +1,1 @@
+"""The tests of study.py, and what they share."""
