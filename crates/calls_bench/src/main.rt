@@ -32,7 +32,7 @@ then a line for each repeat: the microseconds that a table of shortest times too
   NETWORK   a file of streets: from,to,seconds
   POINTS    how many nodes, spread evenly over the network, 0 to 12500
   REPEATS   how many times the table is made, 0 to 1000
-  WAY       rows, by one search for each node, or labels, or hierarchy: searches for the first 500 nodes, then a hierarchy
+  WAY       rows, by one search for each node, or labels
 
 Exit status: 0 done; 2 words; 3 network or table; 4 clock or output; 5 out of memory.
 ";

@@ -1,12 +1,11 @@
-//! How long a table of shortest times takes on a network, by searches, by labels or by a hierarchy, between nodes spread
-//! evenly over it, and the sum of each table's cells, by which another program's table can be compared.
+//! How long a table of shortest times takes on a network, by searches or by labels, between nodes spread evenly over it,
+//! and the sum of each table's cells, by which another program's table can be compared.
 ghost use Rattle.std.specs.Prelude.{◌≡◌, ◌<◌, ◌≤◌, IfOk, IfSome};
 ghost use Rattle.travel_times.specs.labels.Labels.{AreLabelsOf};
 
 use crate::fault::Fault;
 use pool_base::{NodeId, OutOfMemory, Times, read_number_up_to};
 use pool_io::{StdSource, read_all, rows};
-use road_hierarchy::HierarchyWays;
 use road_network::{NETWORK_HEADER, Network, read_network};
 use std::alloc::Global;
 use std::env;
@@ -20,21 +19,13 @@ const LONGEST_FILE: u64 = 67_108_864;
 
 const MOST_POINTS: u64 = 12_500;
 
-/// How tables are made.
-#[derive(Clone, Copy)]
-enum Way {
-    Rows,
-    Labels,
-    Hierarchy,
-}
-
 /// What the words ask for.
 #[derive(Drop)]
 struct Wish {
     network: String,
     points: usize,
     repeats: u64,
-    way: Way,
+    by_labels: bool,
 }
 
 /// Times the tables that the words behind the first ask for.
@@ -56,23 +47,16 @@ fn measure_on(
 {
     let nodes = spread_nodes(rt.alloc(), network, wish.points)?;
     println!(rt; "threads {}", available_parallelism(threads)?)?;
-    match wish.way {
-        Way::Rows => {
-            let ways = NetworkWays {
-                network,
-                workers: 4,
-            };
-            measure_tables(rt, threads, network, &ways, &nodes, wish.repeats)
-        }
-        Way::Labels => {
-            let labels = labels_of(rt, network)?;
-            let ways = LabelWays::of(network, labels, 4);
-            measure_tables(rt, threads, network, &ways, &nodes, wish.repeats)
-        }
-        Way::Hierarchy => {
-            let ways = HierarchyWays::of(network, 4);
-            measure_tables(rt, threads, network, &ways, &nodes, wish.repeats)
-        }
+    if wish.by_labels {
+        let labels = labels_of(rt, network)?;
+        let ways = LabelWays::of(network, labels, 4);
+        measure_tables(rt, threads, network, &ways, &nodes, wish.repeats)
+    } else {
+        let ways = NetworkWays {
+            network,
+            workers: 4,
+        };
+        measure_tables(rt, threads, network, &ways, &nodes, wish.repeats)
     }
 }
 
@@ -128,23 +112,16 @@ fn wish_of(rt: &HostRuntime) -> Option<Wish>
     let network = words.next()?;
     let points = read_number_up_to(words.next()?.as_bytes(), MOST_POINTS)? as usize;
     let repeats = read_number_up_to(words.next()?.as_bytes(), 1000)?;
-    let way = way_of(words.next()?.as_str())?;
+    let way = words.next()?;
+    if way.as_str() != "rows" && way.as_str() != "labels" {
+        return None;
+    }
     Some(Wish {
         network,
         points,
         repeats,
-        way,
+        by_labels: way.as_str() == "labels",
     })
-}
-
-/// The way of a word.
-fn way_of(word: &str) -> Option<Way> {
-    match word {
-        "rows" => Some(Way::Rows),
-        "labels" => Some(Way::Labels),
-        "hierarchy" => Some(Way::Hierarchy),
-        _ => None,
-    }
 }
 
 fn network_of(rt: &HostRuntime, path: &str) -> Result<Network, Fault> {

@@ -1,6 +1,6 @@
 //! The pages that the program prints of itself. A page is a list of parts.
 
-const VERSION: [&str; 1] = ["ridepool 1.4.1\n"];
+const VERSION: [&str; 1] = ["ridepool 1.4.0\n"];
 
 const RUN_USAGE: &str = "ridepool run network=FILE fleet=FILE script=FILE [KEY=VALUE ..]\n";
 
