@@ -30,7 +30,8 @@ HasHighWalkWithin rank arcs least start goal seconds = (walk : List Arc) × IsWa
 
 -- a way around a node of less rank than its two neighbours, over higher nodes only, is no longer than the way through it
 abbrev pub HasWaysPast : (ℕ → ℕ) → List Arc → Type 0
-HasWaysPast rank arcs = (first second : Arc) → Contains arcs first → Contains arcs second → first.to ≡ second.from → rank first.to < rank first.from → rank second.from < rank second.to
+HasWaysPast rank arcs = (first second : Arc) → Contains arcs first → Contains arcs second → first.to ≡ second.from
+    → rank first.to < rank first.from → rank second.from < rank second.to
     → HasHighWalkWithin rank arcs (rank first.to + 1) first.from second.to (first.seconds + second.seconds)
 
 -- each arc of one list is as long as some walk of the other, no arc joins two nodes of one rank, and there are ways past each node

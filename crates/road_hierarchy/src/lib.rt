@@ -14,8 +14,7 @@
 //! let ways = HierarchyWays::of(network, settings.workers);
 //! ```
 //!
-//! Main clauses: `HierarchyWays::of`; `Hierarchy::build`; the laws `a_way_up_and_down_is_sound` and
-//! `each_walk_has_a_way_up_and_down`.
+//! Main clauses: `HierarchyWays::of`; the laws `a_way_up_and_down_is_sound` and `each_walk_has_a_way_up_and_down`.
 #![tactic(auto)]
 
 // Rooms, each names only those above it: sweeps, build, table.
@@ -25,6 +24,5 @@ mod laws;
 mod sweeps;
 mod table;
 
-pub use build::check::checked::Hierarchy;
 pub use laws::{a_way_up_and_down_is_sound, each_walk_has_a_way_up_and_down};
 pub use table::ways::HierarchyWays;

@@ -1,1 +1,2 @@
 pub mod PairTasks
+pub mod FirstPickups

@@ -1,5 +1,5 @@
 //! The trips of one vehicle, grown size by size from the trips with one rider fewer. The batch calls it for
-//! each vehicle. It names no other room.
+//! each vehicle. It names `pairs`.
 
 mod candidate;
 mod growing;

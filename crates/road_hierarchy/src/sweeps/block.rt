@@ -20,7 +20,8 @@ pub(crate) fn times_from(up: &[Arc], down: &[Arc], sources: &[u32], rows: &mut [
     requires down_turn { AreInTurn down.now }
     requires down_within { All (IsWithin (length rows.old)) down.now }
     ensures same_length { length rows.new ≡ length rows.old }
-    ensures times { (network arcs : List Arc) (rank : ℕ → ℕ) (known wanted : ℕ → Bool) (k goal : ℕ) → AreSweeps network arcs rank known wanted up.now down.now → HasShortWalks network (slice_index sources.now k) goal
+    ensures times { (network arcs : List Arc) (rank : ℕ → ℕ) (known wanted : ℕ → Bool) (k goal : ℕ)
+        → AreSweeps network arcs rank known wanted up.now down.now → HasShortWalks network (slice_index sources.now k) goal
         → k < length sources.now → known (slice_index sources.now k) ≡ true → goal < length rows.old → wanted goal ≡ true
         → IsTimeBetween network (slice_index sources.now k) goal (closed_cell (lane_cell rows.new goal k)) }
 {

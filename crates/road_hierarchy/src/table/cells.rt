@@ -31,7 +31,9 @@ pub(crate) fn cells_between(
     requires known { All (λ point. point < length hierarchy.now.nodes) points.now }
     requires few { length points.now ≤ 12500 }
     ensures size { IfOk result (λ cells. length cells.items ≡ length points.entry.now * length points.entry.now) }
-    ensures times { IfOk result (λ cells. (i j : ℕ) → i < length points.entry.now → j < length points.entry.now → IsTimeBetween hierarchy.entry.now.arcs (slice_index points.entry.now i) (slice_index points.entry.now j) (slice_index cells.items (i * length points.entry.now + j))) }
+    ensures times { IfOk result (λ cells. (i j : ℕ) → i < length points.entry.now → j < length points.entry.now
+        → IsTimeBetween hierarchy.entry.now.arcs (slice_index points.entry.now i) (slice_index points.entry.now j)
+        (slice_index cells.items (i * length points.entry.now + j))) }
 {
     let count = points.len();
     let part = Part::of(alloc, hierarchy, points)?;
@@ -88,7 +90,9 @@ fn write_table(
     requires size { length cells.old ≡ length points.now * length points.now }
     requires fresh { All (λ cell. cell ≡ unwritten) cells.old }
     ensures size { length cells.new ≡ length cells.old }
-    ensures times { (roads : Roads) → IsPart roads points.entry.now part.entry.now.nodes part.entry.now.turned.items part.entry.now.up.items part.entry.now.down.items → AreCellsFrom roads points.entry.now 0 cells.new }
+    ensures times { (roads : Roads)
+        → IsPart roads points.entry.now part.entry.now.nodes part.entry.now.turned.items part.entry.now.up.items part.entry.now.down.items
+        → AreCellsFrom roads points.entry.now 0 cells.new }
 {
     par_chunks_mut_for_each(
         rt,
@@ -96,7 +100,9 @@ fn write_table(
         rows * points.len(),
         |start: usize, piece: &mut [u32]|
             requires { (length points.now ≤ 12500) × (length part.now.turned.items ≡ length points.now) × IsPiece (length points.now) start piece.now }
-            ensures { (length piece.new ≡ length piece.old) × ((roads : Roads) → IsPart roads points.entry.now part.entry.now.nodes part.entry.now.turned.items part.entry.now.up.items part.entry.now.down.items → AreCellsFrom roads points.entry.now start piece.new) }
+            ensures { (length piece.new ≡ length piece.old) × ((roads : Roads)
+                → IsPart roads points.entry.now part.entry.now.nodes part.entry.now.turned.items part.entry.now.up.items part.entry.now.down.items
+                → AreCellsFrom roads points.entry.now start piece.new) }
         { write_rows(alloc, part, points, start, piece) },
     );
 }
@@ -107,7 +113,8 @@ fn write_rows(alloc: Global, part: &Part, points: &[usize], start: usize, cells:
     requires turned { length part.now.turned.items ≡ length points.now }
     requires piece { IsPiece (length points.now) start cells.old }
     ensures size { length cells.new ≡ length cells.old }
-    ensures times { (roads : Roads) → IsPart roads points.now part.now.nodes part.now.turned.items part.now.up.items part.now.down.items → AreCellsFrom roads points.now start cells.new }
+    ensures times { (roads : Roads) → IsPart roads points.now part.now.nodes part.now.turned.items part.now.up.items part.now.down.items
+        → AreCellsFrom roads points.now start cells.new }
 {
     let Ok(mut blocks) = blocks_of(alloc, part.nodes) else {
         return;
@@ -149,7 +156,8 @@ fn write_block(
     requires blocks { length blocks.old ≡ part.now.nodes }
     ensures blocks { length blocks.new ≡ length blocks.old }
     ensures size { length cells.new ≡ length cells.old }
-    ensures times { (roads : Roads) → IsPart roads points.now part.now.nodes part.now.turned.items part.now.up.items part.now.down.items → IsWriting roads points.now from rows.0 cells.old → IsWriting roads points.now from (rows.0 + rows.1) cells.new }
+    ensures times { (roads : Roads) → IsPart roads points.now part.now.nodes part.now.turned.items part.now.up.items part.now.down.items
+        → IsWriting roads points.now from rows.0 cells.old → IsWriting roads points.now from (rows.0 + rows.1) cells.new }
 {
     let (row, lanes) = rows;
     let first = from + row;

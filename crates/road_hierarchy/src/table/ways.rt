@@ -94,7 +94,8 @@ impl Ways for HierarchyWays<'_> {
 /// two networks are compared.
 fn is_of(hierarchy: &Hierarchy<'_>, network: &Network) -> bool
     ensures count { IsTrue result → length hierarchy.now.nodes ≡ length network.now.nodes }
-    ensures times { IsTrue result → (start goal seconds : ℕ) → IsTimeBetween hierarchy.now.arcs start goal seconds → IsTimeBetween network.now.arcs start goal seconds }
+    ensures times { IsTrue result → (start goal seconds : ℕ) → IsTimeBetween hierarchy.now.arcs start goal seconds
+        → IsTimeBetween network.now.arcs start goal seconds }
 {
     are_same(hierarchy.network, network)
 }

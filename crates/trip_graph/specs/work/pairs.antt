@@ -1,3 +1,4 @@
 pub mod Listing
 pub mod RvGraph
 pub mod RrGraph
+pub mod FirstPickup

@@ -1,4 +1,4 @@
-ghost use Rattle.std.specs.Prelude.{◌≡◌, ◌+◌, ◌<◌, ◌≤◌, min, IfOk, OnOk, MatchBool, length};
+ghost use Rattle.std.specs.Prelude.{◌≡◌, ◌+◌, ◌<◌, ◌≤◌, min, IfOk, IsFalse, IsTrue, OnOk, MatchBool, length};
 ghost use Rattle.pool_base.specs.Times.{point_count, travel_time};
 ghost use Rattle.stop_orders.specs.task.Task.{IsTask, IsServable};
 ghost use Rattle.stop_orders.specs.task.Settled.{IsRrEdge, rider_at};
@@ -6,6 +6,7 @@ ghost use Rattle.stop_orders.specs.task.Sound.{IsSound};
 ghost use Rattle.trip_graph.specs.pairs.RrGraph.{IsRrGraph};
 ghost use Rattle.trip_graph.specs.work.pairs.RrGraph.{IsRrGraphUpTo, IsTaskOfFirst, IsTaskOfPair};
 
+use crate::pairs::first_pickup::can_pick_first;
 use arrayvec::ArrayVec;
 use pool_base::{OutOfMemory, Steps, Times};
 use std::alloc::Global;
@@ -95,8 +96,7 @@ fn is_edge<L: Ledger>(
     ensures task { OnOk result (IsTaskOfFirst settled.entry.now pair.0 task.new) }
 {
     let (first, second) = pair;
-    // Whoever gets in first finds seats in an empty vehicle, or nobody does.
-    if settled.most_seats < smaller_party(settled, first, second) {
+    if !may_meet(settled, times, first, second) {
         return Ok(false);
     }
     set_second(task, settled, first, second);
@@ -106,6 +106,27 @@ fn is_edge<L: Ledger>(
     }
     let other = settled.riders.as_slice()[second].leg.origin;
     starts_at(workspace, times, task, other, steps)
+}
+
+/// Whether an empty vehicle has seats for one of two riders, and is in time for the other from where that one waits. It is
+/// asked ahead of the task, since most pairs fail at it.
+fn may_meet(settled: &Settled, times: &Times, first: usize, second: usize) -> bool
+    requires sound { IsSound 6 (point_count times.now) (travel_time times.now) settled.now }
+    requires below { first < second }
+    requires within { second < length settled.now.riders }
+    ensures edge { IsFalse result → IsRrEdge (travel_time times.now) settled.entry.now first second → ⊥ }
+    ensures seats { IsTrue result → 0 < settled.entry.now.most_seats }
+{
+    // Whoever gets in first finds seats in an empty vehicle, or nobody does.
+    if settled.most_seats < smaller_party(settled, first, second) {
+        return false;
+    }
+    let one = &settled.riders.as_slice()[first].leg;
+    let other = &settled.riders.as_slice()[second].leg;
+    if can_pick_first(times, one.origin, settled.now, other) {
+        return true;
+    }
+    can_pick_first(times, other.origin, settled.now, one)
 }
 
 /// How many persons the smaller party of two riders has.

@@ -5,6 +5,7 @@ ghost use Rattle.stop_orders.specs.task.Sound.{IsSound};
 ghost use Rattle.trip_graph.specs.pairs.RvGraph.{IsRvGraph};
 ghost use Rattle.trip_graph.specs.work.pairs.RvGraph.{IsRvGraphUpTo};
 
+use crate::pairs::first_pickup::may_reach;
 use crate::pairs::rv_edge::RvEdge;
 use pool_base::{OutOfMemory, Steps, Times};
 use std::alloc::Global;
@@ -91,6 +92,9 @@ fn can_serve<L: Ledger>(
     ensures { IfOk result (λ can. MatchBool can (IsRvEdge (travel_time times.entry.now) settled.entry.now vehicle rider)
         (IsRvEdge (travel_time times.entry.now) settled.entry.now vehicle rider → ⊥)) }
 {
+    if !may_reach(settled, times, vehicle, rider) {
+        return Ok(false);
+    }
     let trip = [rider];
     let task = task_of(settled, vehicle, &trip);
     let cost = least_cost_with(workspace, &task, times, steps)?;

@@ -4,6 +4,7 @@ ghost use Rattle.trip_graph.specs.vehicle.Trip.{trips_of};
 ghost use Rattle.trip_graph.specs.work.vehicle.Level.{IsBelow, IsLevel, IsLevelUpTo, HasMoreOfLevel};
 ghost use Rattle.trip_graph.specs.work.vehicle.TripGrowth.{CanGrow, rider_count, serves, costs, task_of_trip};
 
+use crate::pairs::first_pickup::may_reach;
 use crate::vehicle::candidate::{has_sibling, have_same_front, is_possible, may_share, with_rider};
 use crate::vehicle::growing::Growing;
 use crate::vehicle::growth::Growth;
@@ -152,6 +153,9 @@ fn grow_first<L: Ledger>(
     }
     let mut task = task_of(growth.settled, growth.vehicle, &[]);
     for rider in 0..growth.settled.riders.as_slice().len() {
+        if !may_reach(growth.settled, growth.times, growth.vehicle, rider) {
+            continue;
+        }
         let longer = LongerTrip { riders: &[], rider };
         if !add_trip(growth, rows, &mut task, &longer, growing, steps)? {
             return Ok(false);

@@ -12,5 +12,7 @@ lane_cell rows node k = slice_index (slice_index_or rows node []) k
 -- the first so many cells of a block are lowered to what an arc gives
 pub record LowersBlock (count : ℕ) (from : List ℕ) (seconds : ℕ) (to to' : List ℕ) : Type 0 where
   pub same_length : length to' ≡ length to
-  pub each : (k : ℕ) → k < count → k < length to → ((slice_index to' k ≡ slice_index to k) × (slice_index to k ≤ slice_index from k + seconds)) ⊎ ((slice_index to' k ≡ slice_index from k + seconds) × (slice_index from k + seconds < slice_index to k))
+  pub each : (k : ℕ) → k < count → k < length to
+      → ((slice_index to' k ≡ slice_index to k) × (slice_index to k ≤ slice_index from k + seconds))
+      ⊎ ((slice_index to' k ≡ slice_index from k + seconds) × (slice_index from k + seconds < slice_index to k))
   pub later : (k : ℕ) → count ≤ k → slice_index to' k ≡ slice_index to k

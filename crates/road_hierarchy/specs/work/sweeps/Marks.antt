@@ -10,7 +10,8 @@ is_marked marks node = slice_index_or marks node false
 pub record HasMarkedOn (arcs : List Arc) (count : ℕ) (marks marks' : List Bool) : Type 0 where
   pub same_length : length marks' ≡ length marks
   pub kept : (node : ℕ) → is_marked marks node ≡ true → is_marked marks' node ≡ true
-  pub closed : (k : ℕ) (d : Arc) → k < count → k < length arcs → is_marked marks' (slice_index_or arcs k d).from ≡ true → is_marked marks' (slice_index_or arcs k d).to ≡ true
+  pub closed : (k : ℕ) (d : Arc) → k < count → k < length arcs → is_marked marks' (slice_index_or arcs k d).from ≡ true
+      → is_marked marks' (slice_index_or arcs k d).to ≡ true
 
 -- marks stay, and each arc that leaves a marked node ends at a marked one
 pub record MarksOn (arcs : List Arc) (marks marks' : List Bool) : Type 0 where
@@ -22,7 +23,8 @@ pub record MarksOn (arcs : List Arc) (marks marks' : List Bool) : Type 0 where
 pub record HasMarkedBack (arcs : List Arc) (place : ℕ) (marks marks' : List Bool) : Type 0 where
   pub same_length : length marks' ≡ length marks
   pub kept : (node : ℕ) → is_marked marks node ≡ true → is_marked marks' node ≡ true
-  pub closed : (k : ℕ) (d : Arc) → place ≤ k → k < length arcs → is_marked marks' (slice_index_or arcs k d).to ≡ true → is_marked marks' (slice_index_or arcs k d).from ≡ true
+  pub closed : (k : ℕ) (d : Arc) → place ≤ k → k < length arcs → is_marked marks' (slice_index_or arcs k d).to ≡ true
+      → is_marked marks' (slice_index_or arcs k d).from ≡ true
 
 -- marks stay, and each arc that ends at a marked node leaves a marked one
 pub record MarksBack (arcs : List Arc) (marks marks' : List Bool) : Type 0 where

@@ -33,7 +33,8 @@ pub record HasSwept (arcs : List Arc) (count : ℕ) (row row' : List ℕ) : Type
   pub same_length : length row' ≡ length row
   pub no_later : (node : ℕ) → slice_index row' node ≤ slice_index row node
   pub from : (node : ℕ) → (start : ℕ) × (walk : List Arc) × IsWalk arcs start walk node × (slice_index row' node ≡ slice_index row start + walk_seconds walk)
-  pub settled : (k : ℕ) (d : Arc) → k < count → k < length arcs → slice_index row' (slice_index_or arcs k d).to ≤ slice_index row' (slice_index_or arcs k d).from + (slice_index_or arcs k d).seconds
+  pub settled : (k : ℕ) (d : Arc) → k < count → k < length arcs
+      → slice_index row' (slice_index_or arcs k d).to ≤ slice_index row' (slice_index_or arcs k d).from + (slice_index_or arcs k d).seconds
 
 -- some arc of a list joins the same two nodes and is no longer
 abbrev pub IsMatchedIn : List Arc → Arc → Type 0
@@ -50,7 +51,8 @@ pub record AreSweeps (network arcs : List Arc) (rank : ℕ → ℕ) (known wante
 
 -- beside each walk from one node to another one takes less than `far` seconds
 abbrev pub HasShortWalks : List Arc → ℕ → ℕ → Type 0
-HasShortWalks network start goal = (walk : List Arc) → IsWalk network start walk goal → (other : List Arc) × IsWalk network start other goal × (walk_seconds other < far)
+HasShortWalks network start goal = (walk : List Arc) → IsWalk network start walk goal
+    → (other : List Arc) × IsWalk network start other goal × (walk_seconds other < far)
 
 -- no way is known but from the source to itself
 pub record IsStart (n source : ℕ) (row : List ℕ) : Type 0 where

@@ -32,7 +32,9 @@ unwritten = 4294967294
 
 -- a cell of a table has the time between its points, where the cells from `start` on stand in a list, or nobody wrote it
 abbrev pub IsCellAt : Roads → List ℕ → ℕ → ℕ → ℕ → Type 0
-IsCellAt roads points start k cell = IsTimeBetween roads.arcs (slice_index points ((start + k) / length points)) (slice_index points ((start + k) % length points)) cell ⊎ (cell ≡ unwritten)
+IsCellAt roads points start k cell =
+    IsTimeBetween roads.arcs (slice_index points ((start + k) / length points)) (slice_index points ((start + k) % length points)) cell
+    ⊎ (cell ≡ unwritten)
 
 -- the cells from `start` on of a table have the times between their points, or nobody wrote them
 abbrev pub AreCellsFrom : Roads → List ℕ → ℕ → List ℕ → Type 0
@@ -47,7 +49,8 @@ pub record IsPiece (n start : ℕ) (cells : List ℕ) : Type 0 where
 
 -- the first so many rows of a piece that begins with row `from` have the times from their points, and nobody wrote the rest
 pub record IsWriting (roads : Roads) (points : List ℕ) (from row : ℕ) (cells : List ℕ) : Type 0 where
-  pub done : (i j : ℕ) → i < row → j < length points → IsTimeBetween roads.arcs (slice_index points (from + i)) (slice_index points j) (slice_index cells (i * length points + j))
+  pub done : (i j : ℕ) → i < row → j < length points
+      → IsTimeBetween roads.arcs (slice_index points (from + i)) (slice_index points j) (slice_index cells (i * length points + j))
   pub rest : (k : ℕ) → row * length points ≤ k → k < length cells → slice_index cells k ≡ unwritten
 
 -- the times of a lane stand in the cells from `at` on, and the other cells stay as they were

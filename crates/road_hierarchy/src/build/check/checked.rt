@@ -10,14 +10,14 @@ use std::marker::Model;
 
 /// A network with a contraction hierarchy of it. Contracts see it as the network.
 #[derive(Drop)]
-pub struct Hierarchy<'a> {
-    pub(crate) network: &'a Network,
+pub(crate) struct Hierarchy<'a> {
+    pub network: &'a Network,
     /// By node: its turn.
-    pub(crate) turns: Vec<u32>,
+    pub turns: Vec<u32>,
     /// The arcs up between turns, by their starts.
-    pub(crate) up: Vec<Arc>,
+    pub up: Vec<Arc>,
     /// The arcs down, from the last of their ends.
-    pub(crate) down: Vec<Arc>,
+    pub down: Vec<Arc>,
 }
 
 impl<'a> Model for Hierarchy<'a> {
@@ -36,7 +36,10 @@ const SEARCHES: u64 = 3_000;
 
 impl<'a> Hierarchy<'a> {
     /// The hierarchy of a network, where it can be made with as much work as it is worth.
-    pub fn build(alloc: Global, network: &'a Network) -> Result<Option<Hierarchy<'a>>, OutOfMemory>
+    pub(crate) fn build(
+        alloc: Global,
+        network: &'a Network,
+    ) -> Result<Option<Hierarchy<'a>>, OutOfMemory>
         ensures { IfOk result (λ found. IfSome found (λ hierarchy. hierarchy ≡ network.entry.now)) }
     {
         let search = network.node_count().saturating_add(network.arc_count());

@@ -1,6 +1,6 @@
 ghost use Rattle.std.specs.Prelude.{◌≡◌, ◌≤◌, ◌<◌, ◌++◌, ℕ, List, All, Contains, IfOk, IsTrue, OnOk, length};
 ghost use Rattle.road_network.specs.declared.arc.Arc.{Arc};
-ghost use Rattle.road_hierarchy.specs.work.build.Labels.{AreLabels, IsLabelled};
+ghost use Rattle.road_hierarchy.specs.work.build.Labels.{AreLabels, CanSearch, IsLabelled};
 ghost use Rattle.road_hierarchy.specs.work.build.Checked.{IsReached};
 ghost use Rattle.road_hierarchy.specs.work.sweeps.Sweep.{IsWithin, far};
 
@@ -73,10 +73,7 @@ impl Search {
         most: u32,
         steps: usize,
     ) -> Result<(), OutOfMemory>
-        requires most { most ≤ far }
-        requires listed { All (Contains (draft.now.up.items ++ draft.now.down.items)) draft.now.leaving.items }
-        requires within { All (IsWithin (length self.old.labels.items)) draft.now.leaving.items }
-        requires labels { AreLabels (draft.now.up.items ++ draft.now.down.items) first.to first.from self.old.current self.old.labels.items }
+        requires { CanSearch (draft.now.up.items ++ draft.now.down.items) draft.now.leaving.items first most self.old.current self.old.labels.items }
         ensures length { length self.new.labels.items ≡ length self.old.labels.items }
         ensures labels { OnOk result (AreLabels (draft.now.up.items ++ draft.now.down.items) first.to first.from self.new.current self.new.labels.items) }
     {
@@ -98,10 +95,7 @@ impl Search {
         seconds: u32,
         node: u32,
     ) -> Result<(), OutOfMemory>
-        requires most { most ≤ far }
-        requires listed { All (Contains (draft.now.up.items ++ draft.now.down.items)) draft.now.leaving.items }
-        requires within { All (IsWithin (length self.old.labels.items)) draft.now.leaving.items }
-        requires labels { AreLabels (draft.now.up.items ++ draft.now.down.items) first.to first.from self.old.current self.old.labels.items }
+        requires { CanSearch (draft.now.up.items ++ draft.now.down.items) draft.now.leaving.items first most self.old.current self.old.labels.items }
         ensures length { length self.new.labels.items ≡ length self.old.labels.items }
         ensures labels { OnOk result (AreLabels (draft.now.up.items ++ draft.now.down.items) first.to first.from self.new.current self.new.labels.items) }
     {
@@ -122,7 +116,8 @@ impl Search {
 
     /// Whether this search gave a node these seconds.
     fn has_label(&self, seconds: u32, node: u32) -> bool
-        ensures { IsTrue result → (arcs : List Arc) (below source : ℕ) → AreLabels arcs below source self.now.current self.now.labels.items → IsLabelled arcs below source node seconds }
+        ensures { IsTrue result → (arcs : List Arc) (below source : ℕ) → AreLabels arcs below source self.now.current self.now.labels.items
+            → IsLabelled arcs below source node seconds }
     {
         match self.labels.get(node as usize) {
             Some(label) => label.search == self.current && label.seconds == seconds,
@@ -137,7 +132,8 @@ impl Search {
         requires end { arc.to < length self.old.labels.items }
         requires near { here ≤ far }
         ensures length { length self.new.labels.items ≡ length self.old.labels.items }
-        ensures labels { OnOk result ((arcs : List Arc) → AreLabels arcs first.to first.from self.old.current self.old.labels.items → Contains arcs arc → IsLabelled arcs first.to first.from arc.from here → first.to < arc.to
+        ensures labels { OnOk result ((arcs : List Arc) → AreLabels arcs first.to first.from self.old.current self.old.labels.items
+            → Contains arcs arc → IsLabelled arcs first.to first.from arc.from here → first.to < arc.to
             → AreLabels arcs first.to first.from self.new.current self.new.labels.items) }
     {
         let through = here + arc.seconds;
@@ -157,7 +153,8 @@ impl Search {
     pub(crate) fn reaches_all(&self, first: Arc, ups: &[Arc]) -> bool
         requires short { first.seconds ≤ far }
         requires within { All (IsWithin (length self.now.labels.items)) ups.now }
-        ensures { IsTrue result → (arcs : List Arc) → AreLabels arcs first.to first.from self.now.current self.now.labels.items → All (IsReached arcs first) ups.now }
+        ensures { IsTrue result → (arcs : List Arc) → AreLabels arcs first.to first.from self.now.current self.now.labels.items
+            → All (IsReached arcs first) ups.now }
     {
         for second in ups {
             let label = self.labels[second.to as usize];

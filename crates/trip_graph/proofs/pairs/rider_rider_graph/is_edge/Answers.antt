@@ -5,32 +5,24 @@ use Rattle.std.specs.Result.{IfOk}
 use Rattle.std.proofs.lemmas.Result.{IfOk-weaker, on_ok_weaker}
 use Rattle.trip_graph.proofs.pairs.PairTasks.{
   rider_read,
-  pair_needs_seats,
   pair_valid,
   put_at,
   stays_pair,
   task_of_first,
   origins_within,
-  no_edge_from,
   rr_answer,
 }
 use Rattle.trip_graph.proofs.Lists.{on_err}
 use Rattle.trip_graph.proofs.pairs.rider_rider_graph.is_edge.Goals as goal
 
-pub returns-then-settled-smaller_party-clause-edge : goal.returns-then-settled-smaller_party-clause-edge
-returns-then-settled-smaller_party-clause-edge g c =
-    let tau = travel_time c.args.times.now in let settled = c.args.settled.now in let a = c.args.pair.0 in let b = c.args.pair.1 in
-    no_edge_from tau settled a b
-    (λ s. let seats = pair_needs_seats tau settled _ a b s in let few = c.if-settled-smaller_party.true in let is =
-    c.smaller_party.ensures.value in omega arith)
-    (λ s. let seats = pair_needs_seats tau settled _ a b s in let few = c.if-settled-smaller_party.true in let is =
-    c.smaller_party.ensures.value in omega arith)
+pub returns-then-not-may_meet-clause-edge : goal.returns-then-not-may_meet-clause-edge
+returns-then-not-may_meet-clause-edge g c = c.may_meet.ensures.edge c.if-not-may_meet.true
 
 pub starts_at-requires : goal.starts_at-requires
 starts_at-requires g c =
     let points = point_count c.args.times.now in let tau = travel_time c.args.times.now in let settled = c.args.settled.now in let a = c.args.pair.0 in let b =
     c.args.pair.1 in
-    let seats : 0 < settled.most_seats = (let enough = c.if-settled-smaller_party.false in let some = c.smaller_party.ensures.some in omega arith) in
+    let seats : 0 < settled.most_seats = c.may_meet.ensures.seats c.if-not-may_meet.false in
     let read = rider_read settled _ a c.index-as_slice-first.result c.as_slice.ensures (omega arith) in
     subst (IsTask points) (sym (put_at settled _ _ a b c.set_second.ensures))
     (pair_valid points tau settled _ a b c.requires.sound c.requires.below c.requires.within seats
@@ -52,7 +44,7 @@ pub starts_at-requires-2 : goal.starts_at-requires-2
 starts_at-requires-2 g c =
     let points = point_count c.args.times.now in let tau = travel_time c.args.times.now in let settled = c.args.settled.now in let a = c.args.pair.0 in let b =
     c.args.pair.1 in
-    let seats : 0 < settled.most_seats = (let enough = c.if-settled-smaller_party.false in let some = c.smaller_party.ensures.some in omega arith) in
+    let seats : 0 < settled.most_seats = c.may_meet.ensures.seats c.if-not-may_meet.false in
     let read = rider_read settled _ b c.index-as_slice-second.result c.as_slice-2.ensures c.requires.within in
     let again = stays_pair settled _ _ _ a b c.set_second.ensures c.in_ok-starts_at.ensures.task in
     subst (IsTask points) (sym (put_at settled _ _ a b again))

@@ -13,6 +13,9 @@ least_cost_with-requires g c =
           ((c.requires.sound.each c.args.vehicle c.requires.vehicle).tasks (c.args.rider ∷ []) (one_trip _ c.args.rider c.requires.rider) (omega arith));
     }
 
+pub returns-then-not-may_reach : goal.returns-then-not-may_reach
+returns-then-not-may_reach g c = λ e. c.may_reach.ensures c.if-not-may_reach.true e.servable
+
 pub returns : goal.returns
 returns g c =
     let tau = travel_time c.args.times.now in

@@ -1,7 +1,7 @@
 use Rattle.std.proofs.Common.{[], ◌∷◌, ◌<◌, ℕ, length, subst, arith, ap, ◌∙◌}
 use Rattle.trip_graph.proofs.Common.{serves, costs, rider_count, IsLevelUpTo}
 use Rattle.std.proofs.lemmas.Bool.Decides.{nat_tests}
-use Rattle.trip_graph.proofs.vehicle.GrownLevels.{first_begun, ended}
+use Rattle.trip_graph.proofs.vehicle.GrownLevels.{first_begun, ended, passed}
 use Rattle.trip_graph.proofs.vehicle.RowGrowth.{none_first, at_least_once, one_alone}
 use Rattle.trip_graph.proofs.Lists.{on_err}
 use Rattle.trip_graph.proofs.vehicle.row_growth.grow_first.Goals as goal
@@ -22,6 +22,20 @@ loop-rider-init g c =
       room = rw c.requires.none (omega arith);
       task = c.task_of-task.ensures;
       cost = omega arith;
+    }
+
+pub may_reach-requires-clause-rider : goal.may_reach-requires-clause-rider
+may_reach-requires-clause-rider g c = omega (arith, ap length c.as_slice-rider-end.ensures)
+
+pub loop-rider-preserved-then-not-may_reach : goal.loop-rider-preserved-then-not-may_reach
+loop-rider-preserved-then-not-may_reach g c =
+    let growth = c.args.growth.now in
+    record {
+      upto = passed (rider_count growth) (serves growth) (costs growth) c.requires.can.rule [] c.loop-rider.rider c.loop-rider.growing.found.items
+          (λ s. c.may_reach.ensures c.if-not-may_reach.true s.servable) c.loop-rider.invariant.upto;
+      room = c.loop-rider.invariant.room;
+      task = c.loop-rider.invariant.task;
+      cost = omega (arith, c.loop-rider.invariant.cost);
     }
 
 pub returns-in_err-add_trip-clause-steps : goal.returns-in_err-add_trip-clause-steps

@@ -28,4 +28,5 @@ returns-else-end-up-2 c = λ yes.
           (omega (arith, c.if-start-end.false, c.if-end-up.false)) (omega (arith, w.if-up-start.false))
       | else-start-gt0-via-else-start-gt0 w ↦ λ k d next. absurd (omega (arith, next, w.if-start-gt0.false))
     ])
-    (λ d lt. (let read : get_or c.args.up.now c.args.end none ≡ get_or c.args.up.now c.args.end d = get_or_default up c.args.end none d lt in omega (arith, ap (λ (a : Arc). a.from) read, ltb-true c.args.node (get_or up c.args.end none).from yes)))
+    (λ d lt. (let read : get_or c.args.up.now c.args.end none ≡ get_or c.args.up.now c.args.end d = get_or_default up c.args.end none d lt in
+    omega (arith, ap (λ (a : Arc). a.from) read, ltb-true c.args.node (get_or up c.args.end none).from yes)))

@@ -38,12 +38,13 @@ loop-steps-init c = record {
       c.in_ok-begin.ensures.labels c.if-not-branch.false (c.args.draft.now.up.items ++ c.args.draft.now.down.items);
 }
 
-pub settle-requires-clause-most : goal.settle-requires-clause-most
-settle-requires-clause-most c = c.most_seconds-most.ensures
-
-pub settle-requires-clause-within : goal.settle-requires-clause-within
-settle-requires-clause-within c = subst (λ n. All (IsWithin n) c.args.draft.now.leaving.items) (sym (c.loop-steps.invariant.same_length ∙ c.requires.length))
-    c.requires.within
+pub settle-requires : goal.settle-requires
+settle-requires c = record {
+  most = c.most_seconds-most.ensures;
+  listed = c.requires.listed;
+  within = subst (λ n. All (IsWithin n) c.args.draft.now.leaving.items) (sym (c.loop-steps.invariant.same_length ∙ c.requires.length)) c.requires.within;
+  labelled = c.loop-steps.invariant.labels;
+}
 
 pub reaches_all-requires-clause-short : goal.reaches_all-requires-clause-short
 reaches_all-requires-clause-short c = c.requires.down.0.2
