@@ -12,9 +12,7 @@ TRIES = 60  # requests of memory that fail, one in each call
 WITHOUT = "ridepool: out of memory\n"
 SEAL = next(place for place, row in enumerate(NOTICED) if row.split(",")[2] == "seal")  # the first of NOTICED
 FINEST, AMPLE = 256, 2_000_000  # kB of address space: the least step, and what is enough for all
-# How finely the least is looked for, and by how many kB a stack may grow behind the start. Where the kernel has no room for
-# that, it ends a call by a signal.
-LEAST_STEP, STACK = 16, 96
+LEAST_STEP = 16  # how finely the least is looked for
 
 
 def sealed(client):
@@ -127,7 +125,7 @@ def starts(program, folder, limit):
 
 
 def test_little_address_space(live, program, folder):
-    """From the least address space that a call starts with, and a stack, to ample: the block of an open batch comes while the
+    """From the least address space that a call starts with to ample: the block of an open batch comes while the
     input stays open, or the call ends with status 9."""
     Plan().write(folder / "plan")
     known, _, _ = whole_report(live, folder)
@@ -137,7 +135,7 @@ def test_little_address_space(live, program, folder):
         middle = (least + ample) // 2
         least, ample = (least, middle) if starts(program, folder, middle) else (middle, ample)
     statuses = set()
-    for limit in limits(ample + STACK):
+    for limit in limits(ample):
         client = limited(program, folder, limit)
         client.send("\n".join([HEADERS[0], *NOTICED[: SEAL + 1], ""]))
         said = after_the_seal(client, folder, known)

@@ -1,1 +1,2 @@
 pub mod script
+pub mod live

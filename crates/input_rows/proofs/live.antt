@@ -1,4 +1,5 @@
 pub mod PieceLemmas
 pub mod RowLemmas
+pub mod HeardLemmas
 pub mod LineReadLemmas
 pub mod AsScriptLemmas

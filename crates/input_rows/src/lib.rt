@@ -61,8 +61,8 @@
 //! ```
 //!
 //! Main clauses: `read_fleet`: `accepted`, `named`, `refused`; `read_script`: `accepted`, `refused`; `read_row`;
-//! `RowSource::next`: `row`, `behind`, `fault`; `read_start`: `started`, `headless`, `fault`; `LineStream::next_line`: `line`;
-//! `make`; `make_inputs`: `read`, `named`; `made_inputs_are_accepted`; the law
+//! `RefusalListener::refused`; `RowSource::next`: `row`, `behind`, `told`, `fault`; `read_start`: `started`, `headless`,
+//! `fault`; `LineStream::next_line`: `line`; `make`; `make_inputs`: `read`, `named`; `made_inputs_are_accepted`; the law
 //! `accepted_rows_are_a_script`.
 #![tactic(auto)]
 

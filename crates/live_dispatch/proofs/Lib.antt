@@ -4,6 +4,7 @@ pub mod Common
 pub mod CutLemmas
 pub mod DeskLemmas
 pub mod EndLemmas
+pub mod HeardLemmas
 pub mod ReadLemmas
 pub mod RowLemmas
 pub mod RunLemmas

@@ -1,5 +1,5 @@
 -- What stands of a run whose rows come one by one.
-use Rattle.std.specs.Prelude.{◌≡◌, ℕ, ◌<◌, Bool, List, [], ◌∷◌, ◌++◌, length, map, take, Option, ◌⊎◌}
+use Rattle.std.specs.Prelude.{◌≡◌, ℕ, ◌<◌, Bool, List, [], ◌∷◌, ◌++◌, length, map, take, Option, Result, Ok, Err, ◌⊎◌}
 use Rattle.std.specs.Io.KnownBytes.{Appends}
 use Rattle.std.specs.List.{flat_map}
 use Rattle.pool_base.specs.Distinct.{distinct}
@@ -9,6 +9,7 @@ use Rattle.dispatch_engine.specs.lanes.Run.{IsRun, position_after_run, state_aft
 use Rattle.dispatch_report.specs.Round.{end_text, round_text}
 use Rattle.pool_io.specs.Views.{Change, SinkView}
 use Rattle.live_dispatch.specs.Phase.{AreRows, BeginWithRows}
+use Rattle.live_dispatch.specs.declared.fault.LiveFault.{LiveFault}
 use Rattle.request_book.specs.Book.{BookView}
 use Rattle.request_book.specs.Replay.{RepliesAreSteps}
 use Rattle.request_book.specs.declared.values.journal.Entry.{Entry}
@@ -19,6 +20,7 @@ use Rattle.request_book.specs.notices.Notices.{notices}
 use Rattle.request_book.specs.notices.Told.{HaveHeard, NotifierView}
 use Rattle.request_book.specs.declared.notices.notice.Notice.{Notice}
 use Rattle.road_network.specs.Roads.{Roads}
+use Rattle.input_rows.specs.live.Refusals.{HearsAll, HearsSome, Listening}
 use Rattle.input_rows.specs.script.Round.{NumberedLanes, lane_at}
 use Rattle.input_rows.specs.script.Script.{round_of}
 use Rattle.input_rows.specs.declared.script.script_row.ScriptRow.{ScriptRow}
@@ -49,6 +51,11 @@ AreWhole sink text journals whole = (whole ≡ journals) ⊎ (ButLast journals w
 -- the bytes written, where they are told, have grown by a text, and maybe by more
 abbrev pub HasAppended : Option (List ℕ) → Option (List ℕ) → List ℕ → Type 0
 HasAppended old new text = (more : List ℕ) × Appends old new (text ++ more)
+
+-- all refused rows were told where a run came to its end, and after a fault the first
+abbrev pub HearsRun : Result (Unit {0}) LiveFault → Listening → Listening → Type 0
+HearsRun (Ok done) old new = HearsAll old new
+HearsRun (Err fault) old new = HearsSome old new
 
 -- a beginning of two texts was written that isn't the whole; where something of the second was written, this holds
 abbrev pub EndsWithin : Change SinkView → List ℕ → List ℕ → Type 0 → Type 0

@@ -18,6 +18,7 @@ use Rattle.input_rows.specs.script.ScriptRow.{IsBehind}
 use Rattle.input_rows.specs.declared.script.script_row.ScriptRow.{ScriptRow}
 use Rattle.live_dispatch.specs.declared.read_on.Halt.{Halt}
 use Rattle.live_dispatch.specs.declared.read_on.Halt.TheVariants as stop
+use Rattle.input_rows.specs.live.Refusals.{HearsPassed, HearsAll, HearsSome, Listening}
 use Rattle.input_rows.specs.live.Rows.{TakesRows}
 
 -- a row's command with its lane
@@ -61,6 +62,12 @@ IsHeldBack round last _ = ⊤
 abbrev pub FaultsFrom : Halt → ℕ → ℕ → Type 0
 FaultsFrom stop.ReadFault before now = Rose before now
 FaultsFrom _ before now = before ≤ now
+
+-- the refused rows before the row that is held back were told, or all where there is no row more; after a fault the first
+abbrev pub HearsUntil : Halt → Listening → Listening → Type 0
+HearsUntil (stop.Held line) old new = HearsPassed old new
+HearsUntil stop.Ended old new = HearsAll old new
+HearsUntil _ old new = HearsSome old new
 
 -- rows of other lanes and of this round were run, each once and in order, and this holds of them
 pub record RanRows (round : ℕ) (commands : List LaneCommand) (Are : List ScriptRow → Type 0) : Type 0 where

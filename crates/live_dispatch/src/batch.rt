@@ -2,9 +2,11 @@
 ghost use Rattle.std.specs.Prelude.{◌≡◌, ℕ, All, Contains, IfOk, MatchResult};
 ghost use Rattle.request_book.specs.values.Batch.{Batch};
 ghost use Rattle.request_book.specs.Points.{named_nodes};
-ghost use Rattle.live_dispatch.specs.Phase.{FaultsFrom, IsHeldBack};
+ghost use Rattle.live_dispatch.specs.Live.{HearsRun};
+ghost use Rattle.live_dispatch.specs.Phase.{FaultsFrom, HearsUntil, IsHeldBack};
 ghost use Rattle.live_dispatch.specs.Desk.{outputs_seen};
 ghost use Rattle.input_rows.specs.declared.script.script_row.ScriptRow.{ScriptRow};
+ghost use Rattle.input_rows.specs.live.Refusals.{HearsPassed, Listening};
 ghost use Rattle.live_dispatch.specs.work.Rows.{last_of};
 ghost use Rattle.live_dispatch.specs.work.Standing.{Awaits, HasCut, HasEnded, HasRunOn, HaveCome, Moment, Opens, Stands, moment};
 
@@ -50,6 +52,7 @@ pub(crate) fn run_batch<
         (start : Moment) (row : ScriptRow) → row.round ≡ round → Opens solver.now.settings.now solver.now.network.now start row snapshot.entry.now sealed → MatchResult result
         (λ r. let now = moment r.0.book r.0.round (L.to_come r.0.rows) (L.faults r.0.rows) (outputs_seen K.written K.faults N.told N.faults N.steady r.0.outputs.sink r.0.outputs.notifiers.items) in Stands solver.now.settings.now solver.now.network.now start now (HaveCome start now r.1))
         (λ d. HasEnded solver.now.settings.now solver.now.network.now start (L.faults d.rows) (outputs_seen K.written K.faults N.told N.faults N.steady d.outputs.sink d.outputs.notifiers.items) d.ended) }
+    ensures told { MatchResult result (λ r. HearsPassed (L.listening run.rows) (L.listening r.0.rows)) (λ d. HearsRun d.ended (L.listening run.rows) (L.listening d.rows)) }
 {
     let LiveRun {
         book,
@@ -101,6 +104,8 @@ fn after_batch<K: Sink, N: Notifier, L: RowSource, W: Ways, D: Drafter, G: Gate>
         → HasRunOn solver.now.settings.now solver.now.network.now start b round opened.book (L.to_come opened.lines) outputs opened.closed opened.stop opened.fault reads → MatchResult result
         (λ r. let now = moment r.0.book r.0.round (L.to_come r.0.rows) (L.faults r.0.rows) (outputs_seen K.written K.faults N.told N.faults N.steady r.0.outputs.sink r.0.outputs.notifiers.items) in Stands solver.now.settings.now solver.now.network.now start now (HaveCome start now r.1))
         (λ d. HasEnded solver.now.settings.now solver.now.network.now start (L.faults d.rows) (outputs_seen K.written K.faults N.told N.faults N.steady d.outputs.sink d.outputs.notifiers.items) d.ended) }
+    ensures told { (before : Listening) → HearsUntil opened.stop before (L.listening opened.lines)
+        → MatchResult result (λ r. HearsPassed before (L.listening r.0.rows)) (λ d. HearsRun d.ended before (L.listening d.rows)) }
 {
     let Opened {
         book,

@@ -2,7 +2,7 @@ ghost use Rattle.std.specs.Prelude.{◌≡◌, ◌<◌, [], ◌∷◌, All, Cont
 ghost use Rattle.live_dispatch.specs.Desk.{desk_log, desk_root};
 ghost use Rattle.request_book.specs.Points.{named_nodes};
 ghost use Rattle.seat_lock.specs.Values.{AreAllPasses, GainsCalls, IsNew, IsPassOf};
-ghost use Rattle.live_dispatch.specs.Phase.{ClosesBatch, FaultsFrom, IsHeldBack, RanRows, TakesRun, commands_in};
+ghost use Rattle.live_dispatch.specs.Phase.{ClosesBatch, FaultsFrom, HearsUntil, IsHeldBack, RanRows, TakesRun, commands_in};
 
 use crate::close::close_batch;
 use crate::desk::{Desk, Opening};
@@ -55,6 +55,7 @@ pub(crate) fn work_both<
     ensures closed { ClosesBatch solver.now.settings.now solver.now.network.now snapshot.entry.now result.0.1 (commands_in result.0.0) }
     ensures read { RanRows round (commands_in result.1.pass) (TakesRun result.1.stop (L.to_come passes.1.1) (L.to_come result.1.lines)) }
     ensures held { IsHeldBack round (L.last result.1.lines) result.1.stop }
+    ensures told { HearsUntil result.1.stop (L.listening passes.1.1) (L.listening result.1.lines) }
     ensures faults { FaultsFrom result.1.stop (L.faults passes.1.1) (L.faults result.1.lines) }
 {
     let (first, second) = passes;
@@ -62,7 +63,8 @@ pub(crate) fn work_both<
         rt,
         move || -> Reading<K, N, J, L>
             requires { IsPassOf lock.now second.0 × (second.0.lane ≡ 1) × (second.0.calls ≡ []) × (L.last second.1 ≡ round) }
-            ensures { IsPassOf lock.entry.now result.pass × (result.pass.lane ≡ 1) × RanRows round (commands_in result.pass) (TakesRun result.stop (L.to_come second.1) (L.to_come result.lines)) × IsHeldBack round (L.last result.lines) result.stop × FaultsFrom result.stop (L.faults second.1) (L.faults result.lines) }
+            ensures { IsPassOf lock.entry.now result.pass × (result.pass.lane ≡ 1) × RanRows round (commands_in result.pass) (TakesRun result.stop (L.to_come second.1) (L.to_come result.lines)) × IsHeldBack round (L.last result.lines) result.stop × FaultsFrom result.stop (L.faults second.1) (L.faults result.lines)
+                × HearsUntil result.stop (L.listening second.1) (L.listening result.lines) }
         {
             let (mut pass, mut lines) = second;
             let stop = read_on(rt, alloc, lock, &mut pass, &mut lines, round);

@@ -1,6 +1,6 @@
 ghost use Rattle.std.specs.Prelude.{◌≡◌, []};
 ghost use Rattle.seat_lock.specs.Values.{IsPassOf};
-ghost use Rattle.live_dispatch.specs.Phase.{FaultsFrom, IsHeldBack, RanRows, TakesRun, commands_in};
+ghost use Rattle.live_dispatch.specs.Phase.{FaultsFrom, HearsUntil, IsHeldBack, RanRows, TakesRun, commands_in};
 
 use crate::desk::{Desk, LaneCommand, Opening};
 use input_rows::{LineFault, RowSource, ScriptRow};
@@ -39,6 +39,7 @@ pub(crate) fn read_on<K: Sink, N: Notifier, J: Opening, L: RowSource>(
     ensures lane { pass.new.lane ≡ 1 }
     ensures read { RanRows round (commands_in pass.new) (TakesRun result (L.to_come lines.old) (L.to_come lines.new)) }
     ensures held { IsHeldBack round (L.last lines.new) result }
+    ensures told { HearsUntil result (L.listening lines.old) (L.listening lines.new) }
     ensures faults { FaultsFrom result (L.faults lines.old) (L.faults lines.new) }
 {
     'rows: for _ in 0..u64::MAX {

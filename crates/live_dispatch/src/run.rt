@@ -3,7 +3,7 @@ ghost use Rattle.std.specs.Prelude.{◌≡◌, ◌<◌, ◌^◌, [], All, Contai
 ghost use Rattle.request_book.specs.Points.{named_nodes};
 ghost use Rattle.live_dispatch.specs.Desk.{desk_of, outputs_seen};
 ghost use Rattle.request_book.specs.notices.Seen.{notifiers_seen};
-ghost use Rattle.live_dispatch.specs.Phase.{FaultsFrom, HasRunOpen, IsHeldBack, desk_after};
+ghost use Rattle.live_dispatch.specs.Phase.{FaultsFrom, HasRunOpen, HearsUntil, IsHeldBack, desk_after};
 
 use crate::desk::{Desk, Opening};
 use crate::open::{Reading, finish, two_of, work_both};
@@ -77,6 +77,7 @@ pub fn run_open<
         (desk_of batch.book solver.now.settings.now.proof opened)
         (desk_after batch.book solver.now.settings.now.proof opened o.book (outputs_seen K.written K.faults N.told N.faults N.steady o.outputs.sink o.outputs.notifiers.items) o.fault) o.closed o.stop) }
     ensures held { IfOk result (λ o. IsHeldBack round (L.last o.lines) o.stop) }
+    ensures told { IfOk result (λ o. HearsUntil o.stop (L.listening batch.lines) (L.listening o.lines)) }
     ensures faults { IfOk result (λ o. FaultsFrom o.stop (L.faults batch.lines) (L.faults o.lines)) }
     ensures kept { IfErr result (λ u. (K.written u.outputs.sink ≡ K.written batch.outputs.sink) × (K.faults u.outputs.sink ≡ K.faults batch.outputs.sink) × (u.lines ≡ batch.lines)
         × (notifiers_seen N.told N.faults N.steady u.outputs.notifiers.items ≡ notifiers_seen N.told N.faults N.steady batch.outputs.notifiers.items)) }
@@ -110,6 +111,7 @@ fn run_in<
         (desk_of batch.book solver.now.settings.now.proof opened)
         (desk_after batch.book solver.now.settings.now.proof opened o.book (outputs_seen K.written K.faults N.told N.faults N.steady o.outputs.sink o.outputs.notifiers.items) o.fault) o.closed o.stop) }
     ensures held { IfOk result (λ o. IsHeldBack round (L.last o.lines) o.stop) }
+    ensures told { IfOk result (λ o. HearsUntil o.stop (L.listening batch.lines) (L.listening o.lines)) }
     ensures faults { IfOk result (λ o. FaultsFrom o.stop (L.faults batch.lines) (L.faults o.lines)) }
     ensures kept { IfErr result (λ u. (K.written u.outputs.sink ≡ K.written batch.outputs.sink) × (K.faults u.outputs.sink ≡ K.faults batch.outputs.sink) × (u.lines ≡ batch.lines)
         × (notifiers_seen N.told N.faults N.steady u.outputs.notifiers.items ≡ notifiers_seen N.told N.faults N.steady batch.outputs.notifiers.items)) }

@@ -5,11 +5,12 @@ ghost use Rattle.pool_io.specs.Faults.{Rose};
 ghost use Rattle.dispatch_engine.specs.lanes.Run.{IsReady};
 ghost use Rattle.pool_io.specs.Views.{Change, sink_seen};
 ghost use Rattle.live_dispatch.specs.Desk.{outputs_seen};
+ghost use Rattle.input_rows.specs.live.Refusals.{HearsPassed, HearsNext, HearsSome};
 ghost use Rattle.input_rows.specs.live.Rows.{ComesBehind};
 ghost use Rattle.request_book.specs.notices.Seen.{notifiers_seen};
 ghost use Rattle.request_book.specs.notices.Told.{NotifierView};
 ghost use Rattle.input_rows.specs.script.ScriptRow.{IsBehind};
-ghost use Rattle.live_dispatch.specs.Live.{BeginsRows, RunsRows};
+ghost use Rattle.live_dispatch.specs.Live.{BeginsRows, HearsRun, RunsRows};
 ghost use Rattle.live_dispatch.specs.work.Rows.{last_of};
 ghost use Rattle.live_dispatch.specs.work.Standing.{Awaits, GivesNext, HasEnded, HaveCome, Moment, Stands, moment};
 
@@ -59,6 +60,7 @@ pub fn dispatch<
         MatchResult result.ended
         (λ _. RunsRows solver.now.settings.now solver.now.network.now book (L.to_come rows) sinks told)
         (λ _. BeginsRows solver.now.settings.now solver.now.network.now book (L.to_come rows) sinks told) }
+    ensures told { HearsRun result.ended (L.listening rows) (L.listening result.rows) }
     ensures write_fault { IsErrOf result.ended LiveFault.WriteFault → Rose (K.faults outputs.sink) (K.faults result.outputs.sink) }
     ensures read_fault { IsErrOf result.ended LiveFault.ReadFault → Rose (L.faults rows) (L.faults result.rows) }
     ensures never_falls { K.faults outputs.sink ≤ K.faults result.outputs.sink }
@@ -109,6 +111,7 @@ fn run_next<
         (start : Moment) → Stands solver.now.settings.now solver.now.network.now start was (HaveCome start was held) → MatchResult result
         (λ r. let now = moment r.0.book r.0.round (L.to_come r.0.rows) (L.faults r.0.rows) (outputs_seen K.written K.faults N.told N.faults N.steady r.0.outputs.sink r.0.outputs.notifiers.items) in Stands solver.now.settings.now solver.now.network.now start now (HaveCome start now r.1))
         (λ d. HasEnded solver.now.settings.now solver.now.network.now start (L.faults d.rows) (outputs_seen K.written K.faults N.told N.faults N.steady d.outputs.sink d.outputs.notifiers.items) d.ended) }
+    ensures told { MatchResult result (λ r. HearsPassed (L.listening run.rows) (L.listening r.0.rows)) (λ d. HearsRun d.ended (L.listening run.rows) (L.listening d.rows)) }
 {
     let mut run = run;
     match next_row(&mut run.rows, held) {
@@ -125,6 +128,7 @@ fn next_row<L: RowSource>(
 ) -> Result<Option<ScriptRow>, LineFault>
     ensures row { IfOk result (GivesNext held (L.to_come rows.old) (L.to_come rows.new)) }
     ensures behind { (last : ℕ) → Awaits last (L.last rows.old) held → IfOk result (ComesBehind last (L.last rows.new)) }
+    ensures told { MatchResult result (HearsNext (L.listening rows.old) (L.listening rows.new)) (λ _. HearsSome (L.listening rows.old) (L.listening rows.new)) }
     ensures fault { IsErrOf result LineFault.ReadFault → Rose (L.faults rows.old) (L.faults rows.new) }
     ensures never_falls { L.faults rows.old ≤ L.faults rows.new }
 {
@@ -156,6 +160,7 @@ fn run_one<
         (start : Moment) → Stands solver.now.settings.now solver.now.network.now start was (HaveCome start was (Some row)) → MatchResult result
         (λ r. let now = moment r.0.book r.0.round (L.to_come r.0.rows) (L.faults r.0.rows) (outputs_seen K.written K.faults N.told N.faults N.steady r.0.outputs.sink r.0.outputs.notifiers.items) in Stands solver.now.settings.now solver.now.network.now start now (HaveCome start now r.1))
         (λ d. HasEnded solver.now.settings.now solver.now.network.now start (L.faults d.rows) (outputs_seen K.written K.faults N.told N.faults N.steady d.outputs.sink d.outputs.notifiers.items) d.ended) }
+    ensures told { MatchResult result (λ r. HearsPassed (L.listening run.rows) (L.listening r.0.rows)) (λ d. HearsRun d.ended (L.listening run.rows) (L.listening d.rows)) }
 {
     let mut run = run;
     let round = row.round;

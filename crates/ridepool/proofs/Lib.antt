@@ -7,6 +7,7 @@ pub mod CompleteLemmas
 pub mod InputLemmas
 pub mod AuditLemmas
 pub mod LiveLemmas
+pub mod RefusedLemmas
 pub mod FleetLemmas
 pub mod ResumedRunLemmas
 pub mod ResumeLemmas

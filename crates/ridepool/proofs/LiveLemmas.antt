@@ -62,7 +62,7 @@ use Rattle.std.specs.Result.{IsErrOf}
 use Rattle.live_dispatch.specs.Live.{BeginsRows, RunsRows}
 use Rattle.live_dispatch.specs.declared.fault.LiveFault.{LiveFault}
 use Rattle.input_rows.specs.live.Rows.{rows_to_come}
-use Rattle.input_rows.specs.live.Start.{live_rows, HasNoHeader, HasStarted}
+use Rattle.input_rows.specs.live.Start.{accepted_of, live_rows, HasNoHeader, HasStarted}
 use Rattle.input_rows.specs.declared.live.start.HeaderFault.{HeaderFault}
 use Rattle.input_rows.specs.declared.live.start.HeaderFault.TheVariants as no_header
 use Rattle.input_rows.specs.declared.live.start.StartFault.{StartFault}
@@ -80,7 +80,7 @@ use Rattle.pool_base.specs.declared.which.Which.TheVariants as file
 rows-of : (version : ScriptVersion) (script next : Option (List ℕ)) → HasStarted script next version → AreRowsOf script (rows_to_come version 0 next)
 rows-of version None next is = tt
 rows-of version (Some text) None is = absurd is
-rows-of version (Some text) (Some rest) is = is 0
+rows-of version (Some text) (Some rest) is = ap accepted_of (is 0)
 
 -- the book is ready for its first row
 pub ready-live : (i : LiveInputs) (book : BookView) → book ≡ opened_book i → IsReady i.settings i.roads book
@@ -196,7 +196,8 @@ pub has-header : (script : Option (List ℕ)) (text : List ℕ) (rows : List Scr
     live_rows (lines_in text) ≡ Ok rows →
     HasNoHeader script why → ⊥
 has-header script text rows why told header other =
-    let P : Option (List ℕ) → Type 0 = λ s. HasNoHeader s why in ok_is_no_err (live_rows (lines_in text)) rows why header (subst P told other)
+    let P : Option (List ℕ) → Type 0 = λ s. HasNoHeader s why in
+    ok_is_no_err (live_rows (lines_in text)) rows why header (ap accepted_of (subst P told other))
 
 no-end : (call : LiveCall) (i : LiveInputs) (status : RunStatus) → IsFaultlessLive call → (Rose call.rest.out.before.faults call.rest.out.after.faults → ⊥) →
     EndsLive i call.rest status

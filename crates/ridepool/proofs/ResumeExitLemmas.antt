@@ -242,7 +242,7 @@ module _ (call : ResumeCall) (f : IsFaultlessResume call) where
       absurd (none_is_no_some (resume_fault call.live.words) fault f.words.faultless why)
   complete-resume _ judged writes (ExplainsResume.unstored silent) = inr refl
   complete-resume _ judged writes (ExplainsResume.stopped said status words stop silent) = absurd (no-resume-stop said status stop judged)
-  complete-resume _ judged writes (ExplainsResume.ended d status reads ends) = no-resume-end d status writes ends
+  complete-resume _ judged writes (ExplainsResume.ended d status reads ends tells) = no-resume-end d status writes ends
 
   -- what network, fleet and report were read as is what they tell
   unleft-is-false : (said : ResumeWords) (roads : Roads) (vehicles : List Vehicle) (bytes : List ℕ) → GotDay call said roads vehicles bytes →
@@ -271,25 +271,25 @@ module _ (call : ResumeCall) (said : ResumeWords) (roads : Roads) (vehicles : Li
   untold OutOfMemory why silent = ExplainsResume.unstored silent
   untold _ why silent = absurd why
 
-  explained : EndsDay said roads vehicles bytes call.live.rest call.live.script status → ExplainsResume call status
-  explained (EndsDay.untold why silent script) = untold status why (record { script = script; silent = silent })
-  explained (EndsDay.went_on settings text day ends) =
+  explained : EndsDay said roads vehicles bytes call.live.rest call.live.script call.live.listener status → ExplainsResume call status
+  explained (EndsDay.untold why silent script unheard) = untold status why (record { script = script; listener = unheard; silent = silent })
+  explained (EndsDay.went_on settings text day ends tells) =
       let d = day_of settings roads vehicles text said in
       ExplainsResume.ended d status
-      (record { said = said; words = got.words; roads = got.read; report = reads_as call.report bytes (HasDay said d) got.report day }) ends
+      (record { said = said; words = got.words; roads = got.read; report = reads_as call.report bytes (HasDay said d) got.report day }) ends tells
 
-  hides : EndsDay said roads vehicles bytes call.live.rest call.live.script status → HidesNoMemory status
-  hides (EndsDay.untold why silent script) = tells-hides said roads vehicles bytes status why
-  hides (EndsDay.went_on settings text day ends) = ends-hide (day_of settings roads vehicles text said) call.live.rest status ends
+  hides : EndsDay said roads vehicles bytes call.live.rest call.live.script call.live.listener status → HidesNoMemory status
+  hides (EndsDay.untold why silent script unheard) = tells-hides said roads vehicles bytes status why
+  hides (EndsDay.went_on settings text day ends tells) = ends-hide (day_of settings roads vehicles text said) call.live.rest status ends
 
-  unjudged : IsFaultlessResume call → EndsDay said roads vehicles bytes call.live.rest call.live.script status → (fault : AuditFault) → status ≡ Report fault →
+  unjudged : IsFaultlessResume call → EndsDay said roads vehicles bytes call.live.rest call.live.script call.live.listener status → (fault : AuditFault) → status ≡ Report fault →
       ⊥
-  unjudged f (EndsDay.untold why silent script) fault is =
+  unjudged f (EndsDay.untold why silent script unheard) fault is =
       let told : TellsNoDay said roads vehicles bytes (Report fault) = subst (TellsNoDay said roads vehicles bytes) is why in
       unleft-is-false call f said roads vehicles bytes got told.2
-  unjudged f (EndsDay.went_on settings text day ends) fault is = ends-unjudged (day_of settings roads vehicles text said) call.live.rest status ends fault is
+  unjudged f (EndsDay.went_on settings text day ends tells) fault is = ends-unjudged (day_of settings roads vehicles text said) call.live.rest status ends fault is
 
-  pub answers-day : EndsDay said roads vehicles bytes call.live.rest call.live.script status → AreLimited call.live.network call.live.fleet status →
+  pub answers-day : EndsDay said roads vehicles bytes call.live.rest call.live.script call.live.listener status → AreLimited call.live.network call.live.fleet status →
       IsReportLimited call.report status → AnswersResume call status
   answers-day ends limited report = record {
     explained = explained ends;

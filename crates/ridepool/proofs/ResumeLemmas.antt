@@ -67,7 +67,7 @@ use Rattle.input_rows.specs.declared.live.start.StartFault.TheVariants as start
 use Rattle.input_rows.specs.declared.script.script_row.ScriptRow.{ScriptRow}
 use Rattle.input_rows.specs.declared.script.version.ScriptVersion.{ScriptVersion}
 use Rattle.input_rows.specs.live.Rows.{least_behind, rows_to_come}
-use Rattle.input_rows.specs.live.Start.{HasNoHeader, HasStarted}
+use Rattle.input_rows.specs.live.Start.{accepted_of, HasNoHeader, HasStarted}
 use Rattle.std.proofs.Math.Seq.{take-append-add}
 use Rattle.std.proofs.lemmas.Bool.Decides.{nat_tests}
 use Rattle.live_dispatch.specs.Closing.{IsClosedTo, StopsClose}
@@ -261,7 +261,7 @@ later-rows : (last : Option ℕ) (version : ScriptVersion) (script next : Option
     AreLaterRowsOf last script (rows_to_come version (least_behind last) next)
 later-rows last version None next is = tt
 later-rows last version (Some text) None is = absurd is
-later-rows last version (Some text) (Some rest) is = is (least_behind last)
+later-rows last version (Some text) (Some rest) is = ap accepted_of (is (least_behind last))
 
 -- a call whose past is written
 module _ (d : Day) (seen : LiveSeen) (kept : Kept) (past : IsPastOf d kept) (proof : d.inputs.settings.proof ≡ true) (copied : OutputsView)

@@ -1,5 +1,5 @@
 -- A call of `live`: what is seen of it, how it ends, and what stands then.
-use Rattle.std.specs.Prelude.{◌≡◌, ℕ, List, [], ◌∷◌, ◌++◌, Option, Some, None, Ok, Err, codes, is_none, length, if◌then◌else◌, ◌⊎◌}
+use Rattle.std.specs.Prelude.{◌≡◌, ℕ, List, [], ◌∷◌, ◌++◌, Option, Some, None, Ok, Err, codes, is_none, length, IfSome, if◌then◌else◌, ◌⊎◌}
 use Rattle.std.specs.Io.KnownBytes.{Appends}
 use Rattle.request_book.specs.declared.values.vehicle.Vehicle.{Vehicle}
 use Rattle.dispatch_report.specs.Head.{head_text}
@@ -7,7 +7,8 @@ use Rattle.pool_io.specs.Views.{Change, IsUntouched, SinkView, SourceView}
 use Rattle.input_rows.specs.declared.fleet.fault.FleetFault.{FleetFault}
 use Rattle.live_dispatch.specs.Live.{BeginsRows, RunsRows}
 use Rattle.input_rows.specs.live.Lines.{lines_in}
-use Rattle.input_rows.specs.live.Start.{live_rows, HasNoHeader}
+use Rattle.input_rows.specs.live.Refusals.{HasBeenTold, RefusedRow}
+use Rattle.input_rows.specs.live.Start.{live_rows, refused_from, HasNoHeader}
 use Rattle.input_rows.specs.declared.live.start.HeaderFault.{HeaderFault}
 use Rattle.input_rows.specs.declared.live.start.HeaderFault.TheVariants.{Other, TooLong as TooLongLine}
 use Rattle.pool_base.specs.declared.which.Which.TheVariants as file
@@ -105,17 +106,27 @@ pub data EndsLive (i : LiveInputs) (seen : LiveSeen) : RunStatus → Type 0 wher
   failed : BeginsLive i seen → Rose seen.out.before.faults seen.out.after.faults → EndsLive i seen WriteFault
   unstored : IsSilentCall seen ⊎ BeginsLive i seen → EndsLive i seen OutOfMemory
 
--- a call with its words and the sources of its network, its fleet and its script
+-- refused rows of a script were told, each once and in order, with its number and why: all of them where all is done, and
+-- else the first; no round may be lower than this one
+pub record TellsRefused (least : ℕ) (script : Option (List ℕ)) (listener : Change (Option (List RefusedRow))) (status : RunStatus) : Type 0 where
+  pub rows : List RefusedRow
+  pub told : HasBeenTold listener.before listener.after rows
+  pub begin : IfSome script (λ text. (rest : List RefusedRow) × (refused_from least (lines_in text) ≡ rows ++ rest))
+  pub all : status ≡ Done → IfSome script (λ text. refused_from least (lines_in text) ≡ rows)
+
+-- a call with its words, the sources of its network, its fleet and its script, and what its listener shows
 pub record LiveCall : Type 0 where
   pub words : List (List ℕ)
   pub network : Change SourceView
   pub fleet : Change SourceView
   pub script : Change SourceView
+  pub listener : Change (Option (List RefusedRow))
   pub rest : LiveSeen
 
 -- nothing of the script was read, nothing is written and nobody was told anything
 pub record IsUnbegun (call : LiveCall) : Type 0 where
   pub script : IsUntouched call.script
+  pub listener : IsUntouched call.listener
   pub silent : IsSilentCall call.rest
 
 -- the words are good, and network and fleet were read as these inputs
@@ -141,9 +152,10 @@ pub data IsLiveStop (network fleet : Change SourceView) : RunStatus → Type 0 w
 abbrev pub StopsLive : LiveCall → RunStatus → Type 0
 StopsLive call status = (fault_of (words_of_run call.words) ≡ None) × IsLiveStop call.network call.fleet status × IsUnbegun call
 
--- the inputs pass, and the call ended behind them
+-- the inputs pass, and the call ended behind them; refused rows were told
 abbrev pub EndsBehind : LiveCall → RunStatus → Type 0
-EndsBehind call status = (i : LiveInputs) × AreLiveInputs call i × EndsLive i call.rest status
+EndsBehind call status =
+    (i : LiveInputs) × AreLiveInputs call i × EndsLive i call.rest status × TellsRefused 0 call.rest.script call.listener status
 
 -- why a call ended as it did, what is written, and who was told what
 pub data ExplainsLive (call : LiveCall) : RunStatus → Type 0 where
@@ -178,7 +190,7 @@ AreLimited network fleet status =
 
 -- what a call's answer says
 pub record AnswersLive (call : LiveCall) (status : RunStatus) : Type 0 where
-  -- its cause, and what is written
+  -- its cause, what is written, and which refused rows were told
   pub explained : ExplainsLive call status
   -- where nothing is wrong with words, network, fleet and header, and no write fails, all is done or there is no memory,
   -- whatever the rows

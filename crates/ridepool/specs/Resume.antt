@@ -4,6 +4,7 @@ use Rattle.std.specs.Io.KnownBytes.{Appends}
 use Rattle.dispatch_engine.specs.lanes.Run.{IsRun, position_after_run}
 use Rattle.dispatch_report.specs.Round.{end_text}
 use Rattle.input_rows.specs.live.Lines.{lines_in}
+use Rattle.input_rows.specs.live.Refusals.{RefusedRow}
 use Rattle.input_rows.specs.live.Rows.{least_behind}
 use Rattle.input_rows.specs.live.Start.{HasNoHeader, live_rows, rows_from}
 use Rattle.input_rows.specs.declared.live.start.HeaderFault.{HeaderFault}
@@ -37,7 +38,7 @@ use Rattle.rider_limits.specs.declared.settings.Settings.{Settings}
 use Rattle.rider_limits.specs.declared.word_fault.WordFault.{WordFault}
 use Rattle.road_network.specs.Roads.{Roads}
 use Rattle.ridepool.specs.Inputs.{IsSourceTooLong, IsWithin, Reads, Tells}
-use Rattle.ridepool.specs.Live.{AreLimited, IsLiveStop, IsSilentCall, IsUnbegun, LiveCall, LiveInputs, LiveSeen, headless_status, live_head}
+use Rattle.ridepool.specs.Live.{AreLimited, IsLiveStop, IsSilentCall, IsUnbegun, LiveCall, LiveInputs, LiveSeen, TellsRefused, headless_status, live_head}
 use Rattle.ridepool.specs.Reading.{IsFleetIn, network_in}
 use Rattle.ridepool.specs.Status.{HidesNoMemory}
 use Rattle.ridepool.specs.declared.status.RunStatus.{RunStatus}
@@ -189,13 +190,18 @@ pub data IsResumeStop (said : ResumeWords) (call : ResumeCall) : RunStatus → T
   report_refused : (roads : Roads) (vehicles : List Vehicle) (fault : AuditFault) → ReadsRoads call.live roads (λ bytes. IsFleetIn roads.nodes bytes vehicles)
       → Reads file.Report call.report (λ bytes. IsNoPast said roads vehicles bytes fault) → IsResumeStop said call (Report fault)
 
+-- refused rows of later rounds than the past of a day were told
+abbrev pub TellsLater : Day → Option (List ℕ) → Change (Option (List RefusedRow)) → RunStatus → Type 0
+TellsLater d script listener status = (kept : Kept) × IsPastOf d kept × TellsRefused (least_behind kept.last) script listener status
+
 -- why a call ended as it did, what is written, and who was told what
 pub data ExplainsResume (call : ResumeCall) : RunStatus → Type 0 where
   refused : (fault : WordFault) → resume_fault call.live.words ≡ Some fault → IsUntouched call.live.network → IsUntouched call.live.fleet → IsUntouched call.report
       → IsUnbegun call.live → ExplainsResume call (Words fault)
   unstored : IsUnbegun call.live → ExplainsResume call OutOfMemory
   stopped : (said : ResumeWords) (status : RunStatus) → SayResume call.live.words said → IsResumeStop said call status → IsUnbegun call.live → ExplainsResume call status
-  ended : (d : Day) (status : RunStatus) → ReadsDay call d → EndsResume d call.live.rest status → ExplainsResume call status
+  ended : (d : Day) (status : RunStatus) → ReadsDay call d → EndsResume d call.live.rest status → TellsLater d call.live.rest.script call.live.listener status
+      → ExplainsResume call status
 
 -- the words are good, network, fleet and report tell texts that give a day which a run of rows may leave, the script tells its
 -- bytes and has a header, and no read fails
@@ -221,7 +227,7 @@ pub record IsFaultlessResume (call : ResumeCall) : Type 0 where
 
 -- what a call's answer says
 pub record AnswersResume (call : ResumeCall) (status : RunStatus) : Type 0 where
-  -- its cause, and what is written
+  -- its cause, what is written, and which refused rows were told
   pub explained : ExplainsResume call status
   -- where nothing is wrong with words, network, fleet, report and header, and no write fails, all is done or there is no
   -- memory, whatever the rows, and wherever the report breaks off

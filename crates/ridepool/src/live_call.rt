@@ -1,15 +1,16 @@
 //! A script that is written while it is run: one call beside the others.
-ghost use Rattle.std.specs.Prelude.{◌≡◌, ◌≤◌, List, map, All, MatchResult, IfOk, IfErr};
+ghost use Rattle.std.specs.Prelude.{◌≡◌, ◌≢◌, ◌≤◌, List, Option, map, All, MatchResult, IfOk, IfErr};
 ghost use Rattle.std.specs.Io.KnownBytes.{Appends};
 ghost use Rattle.std.specs.String.{string_bytes};
 ghost use Rattle.pool_io.specs.Views.{Change, SourceView, sink_seen, source_seen};
+ghost use Rattle.input_rows.specs.live.Refusals.{RefusedRow};
 ghost use Rattle.input_rows.specs.live.Start.{HasStarted};
 ghost use Rattle.request_book.specs.Consistent.{IsNode};
 ghost use Rattle.request_book.specs.notices.Seen.{notifiers_seen};
 ghost use Rattle.request_book.specs.notices.Told.{NotifierView};
 ghost use Rattle.pool_base.specs.declared.which.Which.TheVariants as file;
 ghost use Rattle.ridepool.specs.Inputs.{IsWithin};
-ghost use Rattle.ridepool.specs.Live.{AnswersLive, AreLimited, AreLiveInputs, EndsLive, ExplainsLive, IsUnbegun, LiveCall, LiveInputs as Inputs, LiveSeen, headless_status, live_head, opened_book};
+ghost use Rattle.ridepool.specs.Live.{AnswersLive, AreLimited, AreLiveInputs, EndsLive, ExplainsLive, IsUnbegun, LiveCall, LiveInputs as Inputs, LiveSeen, TellsRefused, headless_status, live_head, opened_book};
 ghost use Rattle.ridepool.specs.Status.{HidesNoMemory};
 ghost use Rattle.ridepool.specs.work.Live.{live_seen, status_of_end, status_of_start};
 
@@ -39,11 +40,12 @@ use travel_times::Ways;
 
 /// What a call gives back, and how it ended.
 #[derive(Drop)]
-pub struct LiveEnd<S: Source, K: Sink, N: Notifier> {
+pub struct LiveEnd<S: Source, K: Sink, N: Notifier, L: RefusalListener> {
     pub script: S,
     pub out: K,
     /// Those that didn't fail.
     pub notifiers: Vec<N>,
+    pub listener: L,
     pub status: RunStatus,
 }
 
@@ -64,18 +66,21 @@ pub(crate) struct Session<S: Source, K: Sink, N: Notifier, L: RefusalListener> {
 }
 
 /// Ends a call.
-pub(crate) fn ended<S: Source, K: Sink, N: Notifier>(
+pub(crate) fn ended<S: Source, K: Sink, N: Notifier, L: RefusalListener>(
     script: S,
     outputs: Outputs<K, N>,
+    listener: L,
     status: RunStatus,
-) -> LiveEnd<S, K, N>
-    ensures { (result.script ≡ script) × (result.out ≡ outputs.sink) × (result.notifiers ≡ outputs.notifiers) × (result.status ≡ status) }
+) -> LiveEnd<S, K, N, L>
+    ensures { (result.script ≡ script) × (result.out ≡ outputs.sink) × (result.notifiers ≡ outputs.notifiers) × (result.status ≡ status)
+        × (result.listener ≡ listener) }
 {
     let Outputs { sink, notifiers } = outputs;
     LiveEnd {
         script,
         out: sink,
         notifiers,
+        listener,
         status,
     }
 }
@@ -88,8 +93,8 @@ pub(crate) fn ended<S: Source, K: Sink, N: Notifier>(
 /// round waits for the close. At the end of the rows an open batch is closed, and the last line is written. The notices of
 /// a batch are told right behind its block, before the next line is written.
 ///
-/// `Done` says that the report of a run of the accepted rows is written, and that each notifier that is left was told
-/// exactly the notices of that run. `Script` comes only for the header, and `ReadFault` of the script only where its count
+/// `Done` says that the report of a run of the accepted rows is written, that each notifier that is left was told
+/// exactly the notices of that run, and that the listener was told exactly the refused rows, each once and in order. `Script` comes only for the header, and `ReadFault` of the script only where its count
 /// of faults rose; `WriteFault` only where the sink's count rose. After these two and `OutOfMemory` a beginning of such a
 /// report stands that isn't the whole, and the notices told are those of the blocks that are written whole.
 pub fn live<
@@ -111,12 +116,13 @@ pub fn live<
     notifiers: Vec<N>,
     gate: &G,
     listener: L,
-) -> LiveEnd<S, K, N>
+) -> LiveEnd<S, K, N, L>
     ensures { AnswersLive (record {
       words = map string_bytes words.now;
       network = source_seen R.left R.taken R.faults network.old network.new;
       fleet = source_seen F.left F.taken F.faults fleet.old fleet.new;
       script = source_seen S.left S.taken S.faults script result.script;
+      listener = record { before = L.told listener; after = L.told result.listener };
       rest = record {
         script = S.left script;
         reads = record { before = S.faults script; after = S.faults result.script };
@@ -143,10 +149,7 @@ pub fn live<
             drop(inputs);
             answer
         }
-        Err(status) => {
-            drop(listener);
-            ended(script, outputs, status)
-        }
+        Err(status) => ended(script, outputs, listener, status),
     }
 }
 
@@ -156,11 +159,12 @@ fn live_inputs<R: Source, F: Source>(
     network: &mut R,
     fleet: &mut F,
 ) -> Result<LiveInputs, RunStatus>
-    ensures got { (script : Change SourceView) (rest : LiveSeen) → let call : LiveCall = (record {
+    ensures got { (script : Change SourceView) (listener : Change (Option (List RefusedRow))) (rest : LiveSeen) → let call : LiveCall = (record {
       words = map string_bytes words.now;
       network = source_seen R.left R.taken R.faults network.old network.new;
       fleet = source_seen F.left F.taken F.faults fleet.old fleet.new;
       script = script;
+      listener = listener;
       rest = rest;
     }) in MatchResult result
         (λ got. AreLiveInputs call (record { settings = got.settings; roads = got.network; vehicles = got.fleet }))
@@ -205,11 +209,12 @@ fn live_in<
     inputs: &LiveInputs,
     session: Session<S, K, N, L>,
     gate: &G,
-) -> LiveEnd<S, K, N>
+) -> LiveEnd<S, K, N, L>
     requires named { All (λ vehicle. IsNode inputs.now.network.nodes vehicle.node) inputs.now.fleet }
-    ensures { EndsLive (record { settings = inputs.now.settings; roads = inputs.now.network; vehicles = inputs.now.fleet })
+    ensures ends { EndsLive (record { settings = inputs.now.settings; roads = inputs.now.network; vehicles = inputs.now.fleet })
         (live_seen (S.left session.script) (S.faults session.script) (S.faults result.script) (sink_seen K.written K.faults session.outputs.sink result.out)
         (notifiers_seen N.told N.faults N.steady session.outputs.notifiers.items) (notifiers_seen N.told N.faults N.steady result.notifiers.items)) result.status }
+    ensures told { TellsRefused 0 (S.left session.script) (record { before = L.told session.listener; after = L.told result.listener }) result.status }
 {
     let LiveInputs {
         settings,
@@ -223,8 +228,7 @@ fn live_in<
     } = session;
     let mut outputs = outputs;
     let Ok(ways) = ways_by(alloc, network, settings, gate) else {
-        drop(listener);
-        return ended(script, outputs, RunStatus::OutOfMemory);
+        return ended(script, outputs, listener, RunStatus::OutOfMemory);
     };
     let solver = BatchSolver {
         network,
@@ -244,12 +248,12 @@ fn live_in<
                 rows,
                 ended: how,
             } = dispatched;
-            ended(rows.into_source(), outputs, end_status(how))
+            let (script, listener) = rows.into_parts();
+            ended(script, outputs, listener, end_status(how))
         }
         Err(status) => {
             drop(ways);
-            drop(listener);
-            ended(lines.into_source(), outputs, status)
+            ended(lines.into_source(), outputs, listener, status)
         }
     }
 }
@@ -268,6 +272,7 @@ fn start_live<S: Source, K: Sink, W: Ways, D: Drafter, G: Gate>(
         × Appends (K.written out.old) (K.written out.new) (live_head i)) }
     ensures stopped { let i : Inputs = record { settings = solver.now.settings.now; roads = solver.now.network.now; vehicles = fleet.now } in
         (told : List NotifierView) → IfErr result (EndsLive i (live_seen lines.old.to_come lines.old.faults lines.new.faults (sink_seen K.written K.faults out.old out.new) told told)) }
+    ensures undone { IfErr result (λ status. status ≢ RunStatus.Done) }
     ensures never_falls { K.faults out.old ≤ K.faults out.new }
     ensures reads_never_fall { lines.old.faults ≤ lines.new.faults }
 {

@@ -1,14 +1,17 @@
 //! A day that goes on behind what a report keeps of it: one call beside the others.
-ghost use Rattle.std.specs.Prelude.{◌≡◌, ◌≢◌, ◌≤◌, ℕ, List, All, IfErr, IfOk, MatchResult, map};
+ghost use Rattle.std.specs.Prelude.{◌≡◌, ◌≢◌, ◌≤◌, ℕ, List, Option, All, IfErr, IfOk, MatchResult, map};
 ghost use Rattle.std.specs.String.{string_bytes};
+ghost use Rattle.input_rows.specs.live.Refusals.{RefusedRow};
+ghost use Rattle.input_rows.specs.live.Rows.{least_behind};
 ghost use Rattle.input_rows.specs.live.Start.{HasStarted};
 ghost use Rattle.live_dispatch.specs.Desk.{outputs_seen};
+ghost use Rattle.live_dispatch.specs.Live.{HearsRun};
 ghost use Rattle.pool_base.specs.declared.which.Which.TheVariants as file;
 ghost use Rattle.pool_io.specs.Views.{Change, SourceView, sink_seen, source_seen};
 ghost use Rattle.request_book.specs.Consistent.{IsNode};
 ghost use Rattle.request_book.specs.notices.Seen.{notifiers_seen};
 ghost use Rattle.ridepool.specs.Inputs.{IsWithin};
-ghost use Rattle.ridepool.specs.Live.{AreLimited, IsUnbegun, LiveSeen};
+ghost use Rattle.ridepool.specs.Live.{AreLimited, IsUnbegun, LiveSeen, TellsRefused};
 ghost use Rattle.ridepool.specs.Resume.{AnswersResume, CatchesUp, Copies, Day as OneDay, EndsResume, ExplainsResume, IsPastOf, ResumeCall, fault_of_head};
 ghost use Rattle.ridepool.specs.Status.{HidesNoMemory};
 ghost use Rattle.ridepool.specs.declared.status.RunStatus.TheVariants.{Report};
@@ -23,7 +26,7 @@ use crate::ways::ways_by;
 use crate::writing::status_of;
 use dispatch_engine::BatchSolver;
 use dispatch_report::write_head;
-use input_rows::{LineStream, LiveRows, RefusalListener, RowSource, ScriptVersion, read_start};
+use input_rows::{LineStream, LiveRows, RowSource, ScriptVersion, read_start};
 use live_dispatch::{Caught, Dispatched, Outputs, close_open, dispatch};
 use plan_drafts::RelaxationDrafter;
 use pool_base::Which;
@@ -77,7 +80,7 @@ pub fn resume<
     K: Sink + Send + Drop,
     N: Notifier + Send,
     G: Gate,
-    L: RefusalListener + ResumeListener + Send + Drop,
+    L: ResumeListener + Send + Drop,
 >(
     rt: &(impl Threads + Wait + Sync),
     alloc: Global,
@@ -90,13 +93,14 @@ pub fn resume<
     notifiers: Vec<N>,
     gate: &G,
     listener: L,
-) -> LiveEnd<S, K, N>
+) -> LiveEnd<S, K, N, L>
     ensures { AnswersResume (record {
       live = record {
         words = map string_bytes words.now;
         network = source_seen R.left R.taken R.faults network.old network.new;
         fleet = source_seen F.left F.taken F.faults fleet.old fleet.new;
         script = source_seen S.left S.taken S.faults script result.script;
+        listener = record { before = L.told listener; after = L.told result.listener };
         rest = record {
           script = S.left script;
           reads = record { before = S.faults script; after = S.faults result.script };
@@ -125,10 +129,7 @@ pub fn resume<
             drop(inputs);
             answer
         }
-        Err(status) => {
-            drop(listener);
-            ended(script, outputs, status)
-        }
+        Err(status) => ended(script, outputs, listener, status),
     }
 }
 
@@ -140,12 +141,13 @@ fn day_inputs<R: Source, F: Source, A: Source>(
     fleet: &mut F,
     report: &mut A,
 ) -> Result<DayInputs, RunStatus>
-    ensures got { (script : Change SourceView) (rest : LiveSeen) → let call : ResumeCall = (record {
+    ensures got { (script : Change SourceView) (listener : Change (Option (List RefusedRow))) (rest : LiveSeen) → let call : ResumeCall = (record {
       live = record {
         words = map string_bytes words.now;
         network = source_seen R.left R.taken R.faults network.old network.new;
         fleet = source_seen F.left F.taken F.faults fleet.old fleet.new;
         script = script;
+        listener = listener;
         rest = rest;
       };
       report = source_seen A.left A.taken A.faults report.old report.new;
@@ -197,18 +199,19 @@ fn resume_in<
     K: Sink + Send + Drop,
     N: Notifier + Send,
     G: Gate,
-    L: RefusalListener + ResumeListener + Send + Drop,
+    L: ResumeListener + Send + Drop,
 >(
     rt: &(impl Threads + Wait + Sync),
     alloc: Global,
     inputs: &DayInputs,
     session: Session<S, K, N, L>,
     gate: &G,
-) -> LiveEnd<S, K, N>
+) -> LiveEnd<S, K, N, L>
     requires named { All (λ vehicle. IsNode inputs.now.network.nodes vehicle.node) inputs.now.fleet }
     ensures { let seen = live_seen (S.left session.script) (S.faults session.script) (S.faults result.script) (sink_seen K.written K.faults session.outputs.sink result.out)
         (notifiers_seen N.told N.faults N.steady session.outputs.notifiers.items) (notifiers_seen N.told N.faults N.steady result.notifiers.items) in
-        EndsDay inputs.now.said inputs.now.network inputs.now.fleet inputs.now.report.items seen (source_seen S.left S.taken S.faults session.script result.script) result.status }
+        EndsDay inputs.now.said inputs.now.network inputs.now.fleet inputs.now.report.items seen (source_seen S.left S.taken S.faults session.script result.script)
+        (record { before = L.told session.listener; after = L.told result.listener }) result.status }
 {
     match day_in(rt, alloc, inputs, gate) {
         Ok(day) => go_on(rt, alloc, inputs, day, session, gate),
@@ -218,8 +221,7 @@ fn resume_in<
                 outputs,
                 listener,
             } = session;
-            drop(listener);
-            ended(script, outputs, status)
+            ended(script, outputs, listener, status)
         }
     }
 }
@@ -295,7 +297,7 @@ fn go_on<
     K: Sink + Send + Drop,
     N: Notifier + Send,
     G: Gate,
-    L: RefusalListener + ResumeListener + Send + Drop,
+    L: ResumeListener + Send + Drop,
 >(
     rt: &(impl Threads + Wait + Sync),
     alloc: Global,
@@ -303,12 +305,13 @@ fn go_on<
     day: Day<'_>,
     session: Session<S, K, N, L>,
     gate: &G,
-) -> LiveEnd<S, K, N>
+) -> LiveEnd<S, K, N, L>
     requires ready { GoesOn day.settings inputs.now.network (kept_of day.past) }
-    ensures { let seen = live_seen (S.left session.script) (S.faults session.script) (S.faults result.script) (sink_seen K.written K.faults session.outputs.sink result.out)
+    ensures ends { let seen = live_seen (S.left session.script) (S.faults session.script) (S.faults result.script) (sink_seen K.written K.faults session.outputs.sink result.out)
         (notifiers_seen N.told N.faults N.steady session.outputs.notifiers.items) (notifiers_seen N.told N.faults N.steady result.notifiers.items) in
         (text : List ℕ) → let d = day_of day.entry.settings inputs.now.network inputs.now.fleet text inputs.now.said in
         IsPastOf d (kept_of day.entry.past) → EndsResume d seen result.status }
+    ensures told { TellsRefused (least_behind day.entry.past.last) (S.left session.script) (record { before = L.told session.listener; after = L.told result.listener }) result.status }
 {
     let Day {
         settings,
@@ -322,8 +325,7 @@ fn go_on<
             outputs,
             listener,
         } = session;
-        drop(listener);
-        return ended(script, outputs, RunStatus::OutOfMemory);
+        return ended(script, outputs, listener, RunStatus::OutOfMemory);
     };
     let solver = BatchSolver {
         network: &inputs.network,
@@ -354,7 +356,7 @@ fn restart<
     S: Source + Send + Drop,
     K: Sink + Send + Drop,
     N: Notifier + Send,
-    L: RefusalListener + ResumeListener + Send + Drop,
+    L: ResumeListener + Send + Drop,
     W: Ways,
     D: Drafter,
     G: Gate,
@@ -365,11 +367,12 @@ fn restart<
     past: Past<'_>,
     session: Session<S, K, N, L>,
     solver: &BatchSolver<'_, W, D, G>,
-) -> LiveEnd<S, K, N>
+) -> LiveEnd<S, K, N, L>
     requires ready { GoesOn solver.now.settings.now solver.now.network.now (kept_of past) }
-    ensures { let seen = live_seen (S.left session.script) (S.faults session.script) (S.faults result.script) (sink_seen K.written K.faults session.outputs.sink result.out)
+    ensures ends { let seen = live_seen (S.left session.script) (S.faults session.script) (S.faults result.script) (sink_seen K.written K.faults session.outputs.sink result.out)
         (notifiers_seen N.told N.faults N.steady session.outputs.notifiers.items) (notifiers_seen N.told N.faults N.steady result.notifiers.items) in
         (d : OneDay) → d.inputs ≡ record { settings = solver.now.settings.now; roads = solver.now.network.now; vehicles = place.entry.fleet.now } → IsPastOf d (kept_of past.entry) → EndsResume d seen result.status }
+    ensures told { TellsRefused (least_behind past.entry.last) (S.left session.script) (record { before = L.told session.listener; after = L.told result.listener }) result.status }
 {
     let Session {
         script,
@@ -389,12 +392,12 @@ fn restart<
                 rows,
                 ended: how,
             } = dispatched;
-            ended(rows.into_source(), outputs, end_status(how))
+            let (script, listener) = rows.into_parts();
+            ended(script, outputs, listener, end_status(how))
         }
         Err(status) => {
             drop(past);
-            drop(listener);
-            ended(lines.into_source(), outputs, status)
+            ended(lines.into_source(), outputs, listener, status)
         }
     }
 }
@@ -430,6 +433,7 @@ fn copy_past<S: Source, K: Sink, N: Notifier, W: Ways, D: Drafter, G: Gate>(
         (notifiers_seen N.told N.faults N.steady outputs.old.notifiers.items) (notifiers_seen N.told N.faults N.steady outputs.new.notifiers.items) in
         (d : OneDay) → d.inputs ≡ record { settings = solver.now.settings.now; roads = solver.now.network.now; vehicles = fleet.now } → IsPastOf d (kept_of past.now)
         → IfErr result (EndsResume d seen) }
+    ensures undone { IfErr result (λ status. status ≢ RunStatus.Done) }
     ensures never_falls { K.faults outputs.old.sink ≤ K.faults outputs.new.sink }
     ensures reads_never_fall { lines.old.faults ≤ lines.new.faults }
 {
@@ -474,10 +478,11 @@ fn run_behind<
 ) -> Dispatched<K, N, L>
     requires ready { IsRestartable solver.now.settings.now solver.now.network.now past.book past.open }
     requires first { L.last rows ≡ 0 }
-    ensures { RunsBehindIt solver.now.settings.now solver.now.network.now past.entry.book past.entry.open
+    ensures run { RunsBehindIt solver.now.settings.now solver.now.network.now past.entry.book past.entry.open
         (outputs_seen K.written K.faults N.told N.faults N.steady outputs.sink outputs.notifiers.items)
         (outputs_seen K.written K.faults N.told N.faults N.steady result.outputs.sink result.outputs.notifiers.items)
         (L.to_come rows) (L.faults rows) (L.faults result.rows) result.ended }
+    ensures told { HearsRun result.ended (L.listening rows) (L.listening result.rows) }
 {
     let Past {
         book,

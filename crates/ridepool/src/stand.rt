@@ -3,6 +3,7 @@ ghost use Rattle.std.specs.Prelude.{◌≡◌, ◌++◌, IfOk, OnOk};
 ghost use Rattle.dispatch_report.specs.Words.{numbered};
 ghost use Rattle.ridepool.specs.Stand.{or_none, stand_text};
 
+use input_rows::RefusalListener;
 use pool_base::{OutOfMemory, put_bytes, put_number};
 use std::alloc::Global;
 
@@ -19,10 +20,11 @@ pub struct Stand {
     pub open: Option<u64>,
 }
 
-/// Who hears how much of a report is kept. Nothing is promised of it.
-pub trait ResumeListener {
-    /// The day goes on from here.
-    fn resumed(&mut self, stand: &Stand);
+/// Who hears how much of a report is kept, and of the rows that are refused then.
+pub trait ResumeListener: RefusalListener {
+    /// The day goes on from here. It is no refused row.
+    fn resumed(&mut self, stand: &Stand)
+        ensures { Self.told self.new ≡ Self.told self.old };
 }
 
 /// The line that tells where a day stands, without the program's name and without its end.

@@ -16,6 +16,7 @@ mod progress;
 mod reading;
 mod relay;
 mod running;
+mod stack;
 mod watched_gate;
 mod watched_sink;
 
@@ -23,6 +24,7 @@ use crate::live::restart::run_resume;
 use crate::live::session::run_live;
 use crate::pages::{Page, SHORT, page_of};
 use crate::running::run;
+use crate::stack::claim_stack;
 use pool_base::OutOfMemory;
 use ridepool::{RunStatus, fault_text};
 use std::fs::File;
@@ -42,6 +44,7 @@ fn main(rt: HostRuntime) -> ExitCode {
     if let Some(page) = page_of(&words) {
         return report(&rt, &print_page(&rt, page));
     }
+    claim_stack(&rt);
     let status = answer(&rt, &rt, &words);
     let code = report(&rt, &status);
     if hints::are_wanted(&rt) {

@@ -1,7 +1,7 @@
 -- Lines that are judged one by one.
 use Rattle.std.proofs.lemmas.Bool.Decides.{nat_tests}
 use Rattle.std.proofs.lemmas.Result.{IfOk-weaker}
-use Rattle.std.proofs.Common.{arith, ◌≡◌, ◌≤◌, ℕ, Bool, true, false, List, length, sym, ap, ◌∙◌}
+use Rattle.std.proofs.Common.{rules, arith, ◌≡◌, ◌≤◌, ℕ, Bool, true, false, List, [], Option, Some, length, sym, ap, ◌∙◌}
 use Rattle.std.specs.Prelude.{Result, Ok, Err, IfOk, ◌==◌}
 use Rattle.pool_io.specs.Table.{table_of}
 use Rattle.pool_io.specs.declared.records.RowFault.{RowFault}
@@ -11,7 +11,7 @@ use Rattle.input_rows.specs.script.ScriptRow.{script_row_in, IsBehind}
 use Rattle.input_rows.proofs.lemmas.script.ScriptRowLemmas.{IsRead-script_row_in}
 use Rattle.input_rows.specs.declared.script.script_row.ScriptRow.{ScriptRow}
 use Rattle.input_rows.specs.declared.script.version.ScriptVersion.{ScriptVersion}
-use Rattle.input_rows.specs.live.Rows.{judged, round_of_last}
+use Rattle.input_rows.specs.live.Rows.{judged, round_of_last, TakesRows}
 use Rattle.input_rows.specs.live.Start.{other_start, start_of}
 use Rattle.input_rows.specs.declared.live.judge.Judged.TheVariants as judged_as
 use Rattle.input_rows.specs.declared.live.start.Start.{Start}
@@ -40,3 +40,8 @@ row-behind version last line row is = grind (arith, line-behind version last)
 pub came-behind : (came : Bool) (least : ℕ) (row : ScriptRow) → IsBehind least row → IsBehind (round_of_last came least) row
 came-behind true least row behind = behind
 came-behind false least row behind = record { round = omega arith; number = behind.number; lane = behind.lane; stands = behind.stands }
+
+-- lines without rows, one time and then another
+pub takes-on : (a b c : Option (List ScriptRow)) → TakesRows a b [] → TakesRows b c [] → TakesRows a c []
+takes-on (Some all) (Some mid) (Some end) p q = p ∙ q
+takes-on _ _ _ p q = search rules

@@ -3,6 +3,7 @@ use Rattle.std.specs.Prelude.{◌≡◌, ◌≢◌, ℕ, ◌≤◌, ◌<◌, ◌
 use Rattle.std.specs.Result.{IsErrOf}
 use Rattle.dispatch_engine.specs.lanes.Run.{IsReady}
 use Rattle.input_rows.specs.declared.script.script_row.ScriptRow.{ScriptRow}
+use Rattle.input_rows.specs.live.Refusals.{RefusedRow}
 use Rattle.live_dispatch.specs.Closing.{StopsClose}
 use Rattle.live_dispatch.specs.Desk.{OutputsView}
 use Rattle.live_dispatch.specs.Live.{BeginsRows, RunsRows}
@@ -25,7 +26,7 @@ use Rattle.road_network.specs.Roads.{Roads}
 use Rattle.ridepool.specs.Inputs.{IsWithin, Reads}
 use Rattle.ridepool.specs.Live.{IsSilentCall, LiveSeen}
 use Rattle.ridepool.specs.Reading.{IsFleetIn}
-use Rattle.ridepool.specs.Resume.{CatchesUp, Day, EndsResume, HasDay, IsNoPast, IsPastOf, Kept, ReadsRoads, ResumeCall, SayResume}
+use Rattle.ridepool.specs.Resume.{CatchesUp, Day, EndsResume, HasDay, IsNoPast, IsPastOf, Kept, ReadsRoads, ResumeCall, SayResume, TellsLater}
 use Rattle.ridepool.specs.declared.status.RunStatus.{RunStatus}
 use Rattle.ridepool.specs.declared.status.RunStatus.TheVariants.{OutOfMemory, Report, TooLong}
 
@@ -70,10 +71,12 @@ abbrev pub kept_of : Past → Kept
 kept_of p = record { text = p.kept.now; last = p.last; book = p.book; open_batch = p.open; notices = p.notices.items }
 
 -- how a call ended whose inputs were read: its report tells no day, or the day went on
-pub data EndsDay (said : ResumeWords) (roads : Roads) (vehicles : List Vehicle) (bytes : List ℕ) (seen : LiveSeen) (script : Change SourceView) (status : RunStatus) : Type 0 where
-  untold : TellsNoDay said roads vehicles bytes status → IsSilentCall seen → IsUntouched script → EndsDay said roads vehicles bytes seen script status
+pub data EndsDay (said : ResumeWords) (roads : Roads) (vehicles : List Vehicle) (bytes : List ℕ) (seen : LiveSeen) (script : Change SourceView)
+    (listener : Change (Option (List RefusedRow))) (status : RunStatus) : Type 0 where
+  untold : TellsNoDay said roads vehicles bytes status → IsSilentCall seen → IsUntouched script → IsUntouched listener
+      → EndsDay said roads vehicles bytes seen script listener status
   went_on : (settings : Settings) (text : List ℕ) → HasDay said (day_of settings roads vehicles text said) bytes → EndsResume (day_of settings roads vehicles text said) seen status
-      → EndsDay said roads vehicles bytes seen script status
+      → TellsLater (day_of settings roads vehicles text said) seen.script listener status → EndsDay said roads vehicles bytes seen script listener status
 
 -- the book is one behind which a day goes on: it has no entries of its own, and this batch waits for its close, if one does
 pub record IsRestartable (settings : Settings) (roads : Roads) (b : BookView) (waits : Option Batch) : Type 0 where

@@ -13,6 +13,10 @@ pub(crate) struct RefusedRows<E> {
 }
 
 impl<E: Write> RefusalListener for RefusedRows<E> {
+    ghost use Rattle.std.specs.Prelude.{None};
+
+    ghost told = { λ _. None };
+
     fn refused(&mut self, row: u64, refusal: &RowRefusal) {
         if let Ok(text) = refusal_text(self.alloc, row, refusal) {
             self.tell(&text);

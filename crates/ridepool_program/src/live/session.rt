@@ -9,6 +9,7 @@ use crate::relay::{GivingUp, Relayed, start_relay};
 use crate::terminal_of;
 use crate::watched_gate::WatchedGate;
 use crate::watched_sink::WatchedSink;
+use input_rows::RefusalListener;
 use pool_base::OutOfMemory;
 use pool_io::{Sink, Source, StdSink, StdSource};
 use request_book::Notifier;
@@ -127,9 +128,9 @@ impl<'a, R: Wait + Copy> Opened<'a, R> {
 }
 
 /// Closes what a call gave back, and says where a notice was lost.
-pub(crate) fn close<S: Source + Drop, K: Sink + Drop, N: Notifier + Drop>(
+pub(crate) fn close<S: Source + Drop, K: Sink + Drop, N: Notifier + Drop, L: RefusalListener + Drop>(
     rt: &HostRuntime,
-    ended: LiveEnd<S, K, N>,
+    ended: LiveEnd<S, K, N, L>,
     given: usize,
     told: &SharedFile,
 ) -> RunStatus {
@@ -137,10 +138,12 @@ pub(crate) fn close<S: Source + Drop, K: Sink + Drop, N: Notifier + Drop>(
         script,
         out,
         notifiers,
+        listener,
         status,
     } = ended;
     drop(script);
     drop(out);
+    drop(listener);
     tell_lost(rt, notifiers.len() < given, told);
     status
 }

@@ -4,7 +4,8 @@ use Rattle.input_rows.specs.script.ScriptRow.{IsBehind}
 use Rattle.input_rows.specs.declared.script.script_row.ScriptRow.{ScriptRow}
 use Rattle.input_rows.specs.live.Lines.{lines_in}
 use Rattle.input_rows.specs.live.Rows.{NoRows, TakesRows}
-use Rattle.input_rows.specs.live.Start.{rows_from}
+use Rattle.input_rows.specs.live.Refusals.{HearsPassed, HearsAll, Listening}
+use Rattle.input_rows.specs.live.Start.{judged_from}
 use Rattle.input_rows.specs.declared.live.rows.Step.{Step}
 use Rattle.input_rows.specs.declared.live.rows.Step.TheVariants.{Row, Skipped, Ended}
 
@@ -19,8 +20,13 @@ abbrev pub StepsBehind : ℕ → ℕ → Step → Type 0
 StepsBehind old new (Row row) = IsBehind old row × (new ≡ row.round)
 StepsBehind old new _ = new ≡ old
 
+-- a line was told if it is a refused row; where it is the last, no refused row is to come
+abbrev pub HearsStep : Listening → Listening → Step → Type 0
+HearsStep old new Ended = HearsAll old new
+HearsStep old new _ = HearsPassed old new
+
 -- the bytes to come give the same script as those at first, where they are told
 abbrev pub IsSameScript : Option (List ℕ) → Option (List ℕ) → Type 0
 IsSameScript None now = ⊤
 IsSameScript (Some text) None = ⊥
-IsSameScript (Some text) (Some rest) = (least : ℕ) → rows_from least (lines_in text) ≡ rows_from least (lines_in rest)
+IsSameScript (Some text) (Some rest) = (least : ℕ) → judged_from least (lines_in text) ≡ judged_from least (lines_in rest)

@@ -1,5 +1,8 @@
 use Rattle.std.proofs.Common.{Err, ap, refl, sym, subst}
 use Rattle.live_dispatch.proofs.Common.{FaultsFrom, Rose, outputs_seen, notifiers_seen}
+use Rattle.live_dispatch.proofs.HeardLemmas.{all-heard, fault-heard, until-some}
+use Rattle.live_dispatch.specs.Live.{HearsRun}
+use Rattle.live_dispatch.specs.Phase.{HearsUntil}
 use Rattle.live_dispatch.proofs.EndLemmas.{batch-failed, batch-held, batch-last, batch-stopped}
 use Rattle.live_dispatch.specs.declared.fault.LiveFault.TheVariants as live
 use Rattle.live_dispatch.proofs.batch.after_batch.Goals as goal
@@ -41,3 +44,27 @@ returns-in-Err-clause-went g c = λ start b reads from on.
     batch-failed c.args.solver.now.settings.now c.args.solver.now.network.now start b c.args.round c.args.opened.book _ _ _ _ _ reads on c.cut_batch.new.book
     c.in-Err.fault
     (g.L.RowSource.faults c.args.opened.lines) (Err c.in-Err.fault) c.in-Err.ensures refl
+
+pub returns-in-Held-clause-told : goal.returns-in-Held-clause-told
+returns-in-Held-clause-told g c = λ before heard. subst (λ end. HearsUntil end before (g.L.RowSource.listening c.args.opened.lines)) c.in-Held.is heard
+
+pub returns-in-Ended-clause-told : goal.returns-in-Ended-clause-told
+returns-in-Ended-clause-told g c = λ before heard.
+    subst (λ r. HearsRun c.end.result.ended before (g.L.RowSource.listening r)) (sym c.end.ensures.rows)
+    (all-heard c.end.result.ended before (g.L.RowSource.listening c.args.opened.lines)
+    (subst (λ end. HearsUntil end before (g.L.RowSource.listening c.args.opened.lines)) c.in-Ended.is heard))
+
+pub returns-in-ReadFault-clause-told : goal.returns-in-ReadFault-clause-told
+returns-in-ReadFault-clause-told g c = λ before heard.
+    subst (λ r. HearsRun c.stop.result.ended before (g.L.RowSource.listening r)) (sym c.stop.ensures.rows)
+    (fault-heard c.stop.result.ended live.ReadFault before (g.L.RowSource.listening c.args.opened.lines) c.stop.ensures.ended
+    (until-some c.args.opened.stop before (g.L.RowSource.listening c.args.opened.lines) heard))
+
+pub returns-in-OutOfMemory-clause-told : goal.returns-in-OutOfMemory-clause-told
+returns-in-OutOfMemory-clause-told g c = λ before heard.
+    subst (λ r. HearsRun c.stop-in-OutOfMemory.result.ended before (g.L.RowSource.listening r)) (sym c.stop-in-OutOfMemory.ensures.rows)
+    (fault-heard c.stop-in-OutOfMemory.result.ended live.OutOfMemory before (g.L.RowSource.listening c.args.opened.lines) c.stop-in-OutOfMemory.ensures.ended
+    (until-some c.args.opened.stop before (g.L.RowSource.listening c.args.opened.lines) heard))
+
+pub returns-in-Err-clause-told : goal.returns-in-Err-clause-told
+returns-in-Err-clause-told g c = λ before heard. until-some c.args.opened.stop before (g.L.RowSource.listening c.args.opened.lines) heard

@@ -1,4 +1,5 @@
-use Rattle.std.proofs.Common.{refl}
+use Rattle.std.proofs.Common.{refl, ap}
+use Rattle.input_rows.proofs.lemmas.live.RefusalLemmas.{some-none}
 use Rattle.live_dispatch.proofs.EndLemmas.{opened-ended}
 use Rattle.live_dispatch.proofs.batch.run_batch.Goals as goal
 
@@ -29,3 +30,14 @@ returns-in-Err-run_open-clause-went g c = λ start row is opens.
       notifiers =
           c.in-Err-run_open.ensures.kept.3 i;
     })
+
+pub returns-in-Err-clause-told : goal.returns-in-Err-clause-told
+returns-in-Err-clause-told g c = some-none (g.L.RowSource.listening c.args.run.rows) (g.L.RowSource.listening c.args.run.rows) refl
+
+pub returns-in-Ok-run_open-clause-told : goal.returns-in-Ok-run_open-clause-told
+returns-in-Ok-run_open-clause-told g c = c.after_batch.ensures.told (g.L.RowSource.listening c.args.run.rows) c.in-Ok-run_open.ensures.told
+
+pub returns-in-Err-run_open-clause-told : goal.returns-in-Err-run_open-clause-told
+returns-in-Err-run_open-clause-told g c =
+    some-none (g.L.RowSource.listening c.args.run.rows) (g.L.RowSource.listening c.in-Err-run_open.field-0.lines)
+    (ap (λ r. (g.L.RowSource.listening r).told) c.in-Err-run_open.ensures.kept.2)

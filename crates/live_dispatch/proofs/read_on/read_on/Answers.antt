@@ -1,6 +1,7 @@
 use Rattle.std.proofs.Common.{ℕ, sym, subst, ◌∷◌, [], ◌∙◌, refl, arith}
 use Rattle.seat_lock.specs.Values.{entry}
 use Rattle.input_rows.specs.script.ScriptRow.{IsBehind}
+use Rattle.input_rows.proofs.lemmas.live.RefusalLemmas.{hears-further, hears-last, hears-more, some-heard}
 use Rattle.live_dispatch.specs.Phase.{GoesOn}
 use Rattle.live_dispatch.proofs.ReadLemmas.{ran-so, run-more, called_ok, refused_err}
 use Rattle.live_dispatch.proofs.lemmas.TakenLemmas.{takes-all, takes-more, takes-start}
@@ -53,4 +54,35 @@ rows-preserved g c =
           c.rows.invariant.2 (rw c.in-Ok-Some.field-0-is at c.in-Ok-Some.ensures.row) goes called.1 refl,
       omega (arith, c.rows.invariant.3, c.next.ensures.never_falls),
       behind.1 ∙ c.if-line-round.false,
+      hears-more (g.L.RowSource.listening c.args.lines.now) (g.L.RowSource.listening c.rows.lines) (g.L.RowSource.listening c.next.new.self) c.rows.invariant.5
+          (rw c.in-Ok-Some.field-0-is at c.in-Ok-Some.ensures.told),
     )
+
+pub returns-in-Ok-None-clause-told : goal.returns-in-Ok-None-clause-told
+returns-in-Ok-None-clause-told g c =
+    hears-last (g.L.RowSource.listening c.args.lines.now) (g.L.RowSource.listening c.rows.lines) (g.L.RowSource.listening c.next.new.self) c.rows.invariant.5
+    (rw c.in-Ok-None.field-0-is at c.in-Ok-None.ensures.told)
+
+pub returns-in-Err-ReadFault-clause-told : goal.returns-in-Err-ReadFault-clause-told
+returns-in-Err-ReadFault-clause-told g c =
+    hears-further (g.L.RowSource.listening c.args.lines.now) (g.L.RowSource.listening c.rows.lines) (g.L.RowSource.listening c.next.new.self) c.rows.invariant.5
+    c.in-Err-ReadFault.ensures.told
+
+pub returns-in-Err-OutOfMemory-clause-told : goal.returns-in-Err-OutOfMemory-clause-told
+returns-in-Err-OutOfMemory-clause-told g c =
+    hears-further (g.L.RowSource.listening c.args.lines.now) (g.L.RowSource.listening c.rows.lines) (g.L.RowSource.listening c.next.new.self) c.rows.invariant.5
+    c.in-Err-OutOfMemory.ensures.told
+
+pub returns-then-is_err-clause-told : goal.returns-then-is_err-clause-told
+returns-then-is_err-clause-told g c =
+    some-heard (g.L.RowSource.listening c.args.lines.now) (g.L.RowSource.listening c.next.new.self)
+    (hears-more (g.L.RowSource.listening c.args.lines.now) (g.L.RowSource.listening c.rows.lines) (g.L.RowSource.listening c.next.new.self) c.rows.invariant.5
+    (rw c.in-Ok-Some.field-0-is at c.in-Ok-Some.ensures.told))
+
+pub returns-then-line-eq0-clause-told : goal.returns-then-line-eq0-clause-told
+returns-then-line-eq0-clause-told g c =
+    hears-more (g.L.RowSource.listening c.args.lines.now) (g.L.RowSource.listening c.rows.lines) (g.L.RowSource.listening c.next.new.self) c.rows.invariant.5
+    (rw c.in-Ok-Some.field-0-is at c.in-Ok-Some.ensures.told)
+
+pub returns-clause-told : goal.returns-clause-told
+returns-clause-told g c = some-heard (g.L.RowSource.listening c.args.lines.now) (g.L.RowSource.listening c.rows.lines) c.rows.invariant.5

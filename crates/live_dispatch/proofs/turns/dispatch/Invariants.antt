@@ -1,4 +1,5 @@
 use Rattle.std.proofs.Common.{None}
+use Rattle.input_rows.specs.live.Refusals.{HearsPassed}
 use Rattle.live_dispatch.proofs.Common.{outputs_seen, moment}
 use Rattle.live_dispatch.proofs.TurnLemmas.{IsBetween}
 use Rattle.live_dispatch.proofs.turns.dispatch.Given as goal
@@ -13,3 +14,4 @@ invariant-loop g l =
     (outputs_seen g.K.Sink.written g.K.Sink.faults g.N.Notifier.told g.N.Notifier.faults g.N.Notifier.steady l.run.outputs.sink
     l.run.outputs.notifiers.items))
     (g.L.RowSource.last l.run.rows) l.held l.run.proof
+    × HearsPassed (g.L.RowSource.listening l.fn.rows) (g.L.RowSource.listening l.run.rows)

@@ -1,4 +1,7 @@
 use Rattle.std.proofs.Common.{◌≡◌, Some, Err, refl, sym, ap, subst, ◌∙◌}
+use Rattle.input_rows.specs.live.Refusals.{HearsNext}
+use Rattle.live_dispatch.specs.Live.{HearsRun}
+use Rattle.live_dispatch.proofs.HeardLemmas.{all-heard, fault-heard, goes-heard}
 use Rattle.live_dispatch.proofs.Common.{outputs_seen, Rose, notifiers_seen, IsBehind, last_of, AreRows, ComesBehind, GivesNext, moment}
 use Rattle.live_dispatch.proofs.EndLemmas.{all-ended}
 use Rattle.live_dispatch.proofs.TurnLemmas.{next-stands, none-stands, unread-ended}
@@ -48,3 +51,22 @@ returns-in-Err-clause-went g c = λ start stands.
     (c.stop.ensures.notifiers i))
     (λ e. subst (λ r. Rose (g.L.RowSource.faults c.args.run.rows) (g.L.RowSource.faults r)) (sym c.stop.ensures.rows)
     (c.next_row.ensures.fault (c.in-Err.is ∙ ap Err e)))
+
+pub returns-in-Ok-Some-clause-told : goal.returns-in-Ok-Some-clause-told
+returns-in-Ok-Some-clause-told g c =
+    goes-heard (λ r. g.L.RowSource.listening r.0.rows) (λ d. g.L.RowSource.listening d.rows) (λ d. d.ended) c.run_one.result
+    (g.L.RowSource.listening c.args.run.rows) (g.L.RowSource.listening c.next_row.new.rows)
+    (subst (HearsNext (g.L.RowSource.listening c.args.run.rows) (g.L.RowSource.listening c.next_row.new.rows)) c.in-Ok-Some.field-0-is c.in-Ok-Some.ensures.told)
+    c.run_one.ensures.told
+
+pub returns-in-Ok-None-clause-told : goal.returns-in-Ok-None-clause-told
+returns-in-Ok-None-clause-told g c =
+    subst (λ r. HearsRun c.end.result.ended (g.L.RowSource.listening c.args.run.rows) (g.L.RowSource.listening r)) (sym c.end.ensures.rows)
+    (all-heard c.end.result.ended (g.L.RowSource.listening c.args.run.rows) (g.L.RowSource.listening c.next_row.new.rows)
+    (subst (HearsNext (g.L.RowSource.listening c.args.run.rows) (g.L.RowSource.listening c.next_row.new.rows)) c.in-Ok-None.field-0-is c.in-Ok-None.ensures.told))
+
+pub returns-in-Err-clause-told : goal.returns-in-Err-clause-told
+returns-in-Err-clause-told g c =
+    subst (λ r. HearsRun c.stop.result.ended (g.L.RowSource.listening c.args.run.rows) (g.L.RowSource.listening r)) (sym c.stop.ensures.rows)
+    (fault-heard c.stop.result.ended c.fault_of_line.result (g.L.RowSource.listening c.args.run.rows) (g.L.RowSource.listening c.next_row.new.rows)
+    c.stop.ensures.ended c.in-Err.ensures.told)

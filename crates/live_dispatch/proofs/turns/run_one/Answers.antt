@@ -1,4 +1,7 @@
-use Rattle.std.proofs.Common.{Some, refl, subst}
+use Rattle.std.proofs.Common.{Some, refl, sym, subst}
+use Rattle.input_rows.proofs.lemmas.live.RefusalLemmas.{hears-none, some-none}
+use Rattle.live_dispatch.specs.Live.{HearsRun}
+use Rattle.live_dispatch.proofs.HeardLemmas.{fault-heard}
 use Rattle.live_dispatch.proofs.Common.{HasTaken, moment, row_text, snapshot-known, Appends, outputs_seen}
 use Rattle.live_dispatch.proofs.StepLemmas.{row-stands}
 use Rattle.live_dispatch.proofs.TurnLemmas.{row-ended, row-opens}
@@ -40,3 +43,15 @@ returns-in-Err-clause-went g c = λ start stands.
     (g.L.RowSource.faults c.stop.result.rows) _ c.fault_of_text.result c.stop.result.ended c.stop.ensures.ended c.fault_of_text.ensures
     (λ i. outputs_seen g.K.Sink.written g.K.Sink.faults g.N.Notifier.told g.N.Notifier.faults g.N.Notifier.steady (c.stop.ensures.sink i)
     (c.stop.ensures.notifiers i))
+
+pub returns-in-Ok-None-clause-told : goal.returns-in-Ok-None-clause-told
+returns-in-Ok-None-clause-told g c = hears-none (g.L.RowSource.listening c.args.run.rows)
+
+pub returns-in-Ok-Some-clause-told : goal.returns-in-Ok-Some-clause-told
+returns-in-Ok-Some-clause-told g c = c.run_batch-answer.ensures.told
+
+pub returns-in-Err-clause-told : goal.returns-in-Err-clause-told
+returns-in-Err-clause-told g c =
+    subst (λ r. HearsRun c.stop.result.ended (g.L.RowSource.listening c.args.run.rows) (g.L.RowSource.listening r)) (sym c.stop.ensures.rows)
+    (fault-heard c.stop.result.ended c.fault_of_text.result (g.L.RowSource.listening c.args.run.rows) (g.L.RowSource.listening c.args.run.rows)
+    c.stop.ensures.ended (some-none (g.L.RowSource.listening c.args.run.rows) (g.L.RowSource.listening c.args.run.rows) refl))

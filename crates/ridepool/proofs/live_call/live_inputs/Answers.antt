@@ -9,15 +9,15 @@ use Rattle.pool_base.specs.declared.which.Which.TheVariants as file
 use Rattle.ridepool.proofs.live_call.live_inputs.Goals as goal
 
 pub returns-in-Err-clause-got : goal.returns-in-Err-clause-got
-returns-in-Err-clause-got g c script rest silent =
+returns-in-Err-clause-got g c script listener rest silent =
     words-stop _ silent c.in-Err.status refl refl c.in-Err.ensures
 
 pub returns-in-Err-network_from-clause-got : goal.returns-in-Err-network_from-clause-got
-returns-in-Err-network_from-clause-got g c script rest silent =
+returns-in-Err-network_from-clause-got g c script listener rest silent =
     network-stops _ silent c.in-Ok.settings c.in-Err-network_from.status c.in-Ok.ensures refl c.in-Err-network_from.ensures
 
 pub returns-in-Ok-fleet_from-clause-got : goal.returns-in-Ok-fleet_from-clause-got
-returns-in-Ok-fleet_from-clause-got g c script rest = record {
+returns-in-Ok-fleet_from-clause-got g c script listener rest = record {
   words = c.in-Ok.ensures;
   network = c.in-Ok-network_from.ensures;
   fleet =
@@ -28,7 +28,7 @@ pub returns-in-Ok-fleet_from-clause-named : goal.returns-in-Ok-fleet_from-clause
 returns-in-Ok-fleet_from-clause-named g c = c.in-Ok-fleet_from.ensures.named
 
 pub returns-in-Err-fleet_from-clause-got : goal.returns-in-Err-fleet_from-clause-got
-returns-in-Err-fleet_from-clause-got g c script rest silent =
+returns-in-Err-fleet_from-clause-got g c script listener rest silent =
     fleet-stops _ silent c.in-Ok.settings c.in-Ok-network_from.network c.in-Err-fleet_from.status c.in-Ok.ensures c.in-Ok-network_from.ensures
     c.in-Err-fleet_from.ensures.read
 

@@ -1,5 +1,6 @@
-use Rattle.std.proofs.Common.{Err, inl, refl, ap}
-use Rattle.ridepool.proofs.Common.{EndsLive}
+use Rattle.std.proofs.Common.{◌≢◌, Err, inl, refl, sym, ap, subst}
+use Rattle.ridepool.proofs.Common.{Done, EndsLive}
+use Rattle.ridepool.proofs.RefusedLemmas.{memory-undone, start-undone, text-undone}
 use Rattle.ridepool.proofs.LiveLemmas.{head-stops, start-stops}
 use Rattle.ridepool.proofs.live_call.start_live.Goals as goal
 
@@ -22,3 +23,12 @@ pub returns-in-Err-write_head-clause-stopped : goal.returns-in-Err-write_head-cl
 returns-in-Err-write_head-clause-stopped g c told =
     head-stops _ _ c.in-Ok.version c.read_start.new.lines.to_come c.in-Err-write_head.fault c.status_of.result c.status_of.ensures c.in-Ok.ensures.started refl
     c.in-Err-write_head.ensures
+
+pub returns-in-Err-clause-undone : goal.returns-in-Err-clause-undone
+returns-in-Err-clause-undone g c = subst (λ s. s ≢ Done) (sym c.start_status.ensures) (start-undone c.in-Err.fault)
+
+pub returns-in_default-clause-undone : goal.returns-in_default-clause-undone
+returns-in_default-clause-undone g c = memory-undone
+
+pub returns-in-Err-write_head-clause-undone : goal.returns-in-Err-write_head-clause-undone
+returns-in-Err-write_head-clause-undone g c = subst (λ s. s ≢ Done) (sym c.status_of.ensures) (text-undone c.in-Err-write_head.fault)

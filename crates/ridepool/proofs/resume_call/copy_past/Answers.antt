@@ -1,5 +1,6 @@
-use Rattle.std.proofs.Common.{Err, refl, ap}
-use Rattle.ridepool.proofs.Common.{SinkView}
+use Rattle.std.proofs.Common.{◌≢◌, Err, refl, sym, ap, subst}
+use Rattle.ridepool.proofs.Common.{Done, SinkView}
+use Rattle.ridepool.proofs.RefusedLemmas.{memory-undone, start-undone, text-undone}
 use Rattle.live_dispatch.specs.Desk.{OutputsView, outputs_seen}
 use Rattle.ridepool.proofs.ResumeLemmas.{copied-of, copy-stops, header-stops, kept-fails, kept-unstored}
 use Rattle.ridepool.specs.work.Resume.{kept_of}
@@ -37,3 +38,15 @@ pub returns-in-Err-OutOfMemory-clause-stopped : goal.returns-in-Err-OutOfMemory-
 returns-in-Err-OutOfMemory-clause-stopped g c d is past =
     let between : SinkView = record { written = g.K.Sink.written c.write_head.new.sink; faults = g.K.Sink.faults c.write_head.new.sink } in
     kept-unstored d _ is _ (kept_of c.args.past.now) past refl between c.in_default.ensures.bytes c.in-Err-OutOfMemory.ensures.part
+
+pub returns-in-Err-clause-undone : goal.returns-in-Err-clause-undone
+returns-in-Err-clause-undone g c = subst (λ s. s ≢ Done) (sym c.start_status.ensures) (start-undone c.in-Err.fault)
+
+pub returns-in-Err-write_head-clause-undone : goal.returns-in-Err-write_head-clause-undone
+returns-in-Err-write_head-clause-undone g c = subst (λ s. s ≢ Done) (sym c.status_of.ensures) (text-undone c.in-Err-write_head.fault)
+
+pub returns-in-Err-WriteFault-clause-undone : goal.returns-in-Err-WriteFault-clause-undone
+returns-in-Err-WriteFault-clause-undone g c is = cc
+
+pub returns-in-Err-OutOfMemory-clause-undone : goal.returns-in-Err-OutOfMemory-clause-undone
+returns-in-Err-OutOfMemory-clause-undone g c = memory-undone

@@ -19,7 +19,7 @@ use Rattle.ridepool.specs.Resume.{ExplainsResume, SayResume}
 use Rattle.ridepool.proofs.resume_call.day_inputs.Goals as goal
 
 pub returns-in-Err-clause-got : goal.returns-in-Err-clause-got
-returns-in-Err-clause-got g c script rest silent = ExplainsResume.refused c.in-Err.fault c.in-Err.ensures.refused refl refl refl silent
+returns-in-Err-clause-got g c script listener rest silent = ExplainsResume.refused c.in-Err.fault c.in-Err.ensures.refused refl refl refl silent
 
 pub returns-in-Err-clause-limited : goal.returns-in-Err-clause-limited
 returns-in-Err-clause-limited g c = (
@@ -34,7 +34,7 @@ returns-in-Err-clause-limited g c = (
 )
 
 pub returns-in-Err-network_from-clause-got : goal.returns-in-Err-network_from-clause-got
-returns-in-Err-network_from-clause-got g c script rest silent =
+returns-in-Err-network_from-clause-got g c script listener rest silent =
     let words : SayResume (map string_bytes c.args.words.now) c.in-Ok.said = record {
       faultless = c.in-Ok.ensures.accepted.0;
       given =
@@ -60,7 +60,7 @@ pub returns-in-Err-network_from-clause-unjudged : goal.returns-in-Err-network_fr
 returns-in-Err-network_from-clause-unjudged g c = network-unjudged _ c.in-Err-network_from.status c.in-Err-network_from.ensures
 
 pub returns-in-Err-fleet_from-clause-got : goal.returns-in-Err-fleet_from-clause-got
-returns-in-Err-fleet_from-clause-got g c script rest silent =
+returns-in-Err-fleet_from-clause-got g c script listener rest silent =
     let words : SayResume (map string_bytes c.args.words.now) c.in-Ok.said = record {
       faultless = c.in-Ok.ensures.accepted.0;
       given =
@@ -84,7 +84,7 @@ returns-in-Err-fleet_from-clause-unjudged g c =
     fleet-unjudged _ c.in-Ok-network_from.network.nodes c.in-Err-fleet_from.status c.in-Err-fleet_from.ensures.read
 
 pub returns-in-Ok-read_input-clause-got : goal.returns-in-Ok-read_input-clause-got
-returns-in-Ok-read_input-clause-got g c script rest = record {
+returns-in-Ok-read_input-clause-got g c script listener rest = record {
   words = record { faultless = c.in-Ok.ensures.accepted.0; given = c.in-Ok.ensures.accepted.1 };
   read = record { network = c.in-Ok-network_from.ensures; fleet = c.in-Ok-fleet_from.ensures.read };
   report = c.in-Ok-read_input.ensures;
@@ -98,7 +98,7 @@ returns-in-Ok-read_input-clause-limited g c =
     (reads_within _ _ c.in-Ok-network_from.ensures, reads_within _ _ c.in-Ok-fleet_from.ensures.read, reads_within _ _ c.in-Ok-read_input.ensures)
 
 pub returns-in-Err-read_input-clause-got : goal.returns-in-Err-read_input-clause-got
-returns-in-Err-read_input-clause-got g c script rest silent =
+returns-in-Err-read_input-clause-got g c script listener rest silent =
     let words : SayResume (map string_bytes c.args.words.now) c.in-Ok.said = record {
       faultless = c.in-Ok.ensures.accepted.0;
       given =

@@ -16,9 +16,9 @@ go_on-requires-clause-ready g c κs within =
 pub returns-in-Ok : goal.returns-in-Ok
 returns-in-Ok g c =
     let t = c.in-Ok.ensures in
-    EndsDay.went_on c.in-Ok.day.settings t.text t.day (c.go_on.ensures t.text t.past)
+    EndsDay.went_on c.in-Ok.day.settings t.text t.day (c.go_on.ensures.ends t.text t.past) (kept_of c.in-Ok.day.past, t.past, c.go_on.ensures.told)
 
 pub returns-in-Err : goal.returns-in-Err
 returns-in-Err g c =
     let kept = c.ended.ensures in
-    rw (kept.0, kept.1, kept.2, kept.3) (EndsDay.untold c.in-Err.ensures (record { out = refl; notifiers = refl }) refl)
+    rw (kept.0, kept.1, kept.2, kept.3, kept.4) (EndsDay.untold c.in-Err.ensures (record { out = refl; notifiers = refl }) refl refl)
