@@ -6,7 +6,7 @@ use Rattle.input_rows.specs.declared.live.start.HeaderFault.TheVariants as no_he
 use Rattle.input_rows.specs.declared.live.start.StartFault.{StartFault}
 use Rattle.input_rows.specs.declared.live.start.StartFault.TheVariants as start
 use Rattle.input_rows.specs.declared.script.version.ScriptVersion.{ScriptVersion}
-use Rattle.input_rows.specs.live.Refusals.{AreRefused, BeginRefused, HearsSome, Listening, RefusedRow, listening_to, refused_to_come}
+use Rattle.input_rows.specs.live.Refusals.{AreRefused, BeginRefused, Listening, RefusedRow, listening_to, refused_to_come}
 use Rattle.input_rows.specs.live.Start.{HasStarted, refused_from, refused_of}
 use Rattle.input_rows.proofs.lemmas.live.RefusalLemmas.{begin-all, told-same}
 use Rattle.live_dispatch.specs.Live.{HearsRun}

@@ -128,12 +128,12 @@ impl<'a, R: Wait + Copy> Opened<'a, R> {
 }
 
 /// Closes what a call gave back, and says where a notice was lost.
-pub(crate) fn close<S: Source + Drop, K: Sink + Drop, N: Notifier + Drop, L: RefusalListener + Drop>(
-    rt: &HostRuntime,
-    ended: LiveEnd<S, K, N, L>,
-    given: usize,
-    told: &SharedFile,
-) -> RunStatus {
+pub(crate) fn close<
+    S: Source + Drop,
+    K: Sink + Drop,
+    N: Notifier + Drop,
+    L: RefusalListener + Drop,
+>(rt: &HostRuntime, ended: LiveEnd<S, K, N, L>, given: usize, told: &SharedFile) -> RunStatus {
     let LiveEnd {
         script,
         out,
