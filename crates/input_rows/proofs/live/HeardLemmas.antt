@@ -1,5 +1,5 @@
 -- What is told of a line.
-use Rattle.std.proofs.Common.{◌≡◌, ℕ, Bool, true, false, List, [], ◌∷◌, Option, None, Some, if◌then◌else◌, sym, ap, ◌∙◌}
+use Rattle.std.proofs.Common.{◌≡◌, ℕ, Bool, true, false, List, [], ◌∷◌, Option, None, Some, if◌then◌else◌, refl, sym, ap, subst, ◌∙◌}
 use Rattle.pool_io.specs.Faults.{one_more}
 use Rattle.input_rows.specs.declared.live.judge.Judged.{Judged}
 use Rattle.input_rows.specs.declared.live.judge.Judged.TheVariants as judged_as
