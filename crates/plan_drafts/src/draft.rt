@@ -2,11 +2,13 @@
 use crate::Plan;
 use crate::allowance::Allowance;
 use crate::diving::dive;
+use crate::dual::smoothed_multipliers;
 use crate::merge::{Merge, renumbered};
+use crate::plans::annealing::{Cooling, LONG, SHORT};
 use crate::plans::plans::Plans;
 use crate::plans::regrets::Regrets;
 use crate::plans::row_neighbours::RowNeighbours;
-use crate::relaxation::Relaxation;
+use crate::relaxation::{MANY_CONDITIONS, Relaxation};
 use crate::scout::{Scout, Start};
 use crate::tree::branching::FEW_CONDITIONS;
 use crate::tree::tree::DraftTree;
@@ -14,7 +16,6 @@ use pool_base::OutOfMemory;
 use row_tables::{Draft, Drafter, Made, RowTable, ascend, first_multipliers};
 use std::alloc::Global;
 use std::mem::replace;
-use std::ops::Range;
 use std::thread;
 use std::thread::Threads;
 
@@ -36,11 +37,17 @@ const MOST_LOOKS: usize = 100_000_000;
 
 const ABOVE: i64 = 10;
 
+/// Beyond so many rows, with many conditions, multipliers come by the smoothed dual, and where the gap is a penalty or
+/// more plans are sought ahead of the tree.
+const LARGE: usize = 200_000;
+
 /// How many rows of a vehicle a pass puts into the pool.
 const MOST_ROWS: usize = 20;
 
 /// How far above its multiplier it costs to leave out a rider at first, in seconds.
 const BOX: i64 = 5;
+
+const SMALL_BOX: i64 = 2;
 
 /// With so many nodes a tree waits for better plans unless a third of the gap is closed.
 const PROBE: usize = 41;
@@ -61,9 +68,22 @@ const FEW_SCOUTS: u64 = 2;
 
 const NEAR_PART: i64 = 2000;
 
-const MANY_SCOUTS: u64 = 8;
+const MANY: Party = Party {
+    first: 0,
+    count: 8,
+    times: 3,
+    share: SCOUT_SHARE,
+    cooling: SHORT,
+};
 
-const MOST_TIMES: u64 = 3;
+/// How they go where they go ahead of the tree: all of them anneal.
+const AHEAD: Party = Party {
+    first: 1,
+    count: SCOUTS,
+    times: 2,
+    share: 40,
+    cooling: LONG,
+};
 
 /// A tree grows over the rows whose reduced cost is at most this part of the gap, and those that passes bring. It is
 /// larger with few vehicles and riders, where a row costs little.
@@ -78,14 +98,29 @@ const MOST_WORK: u64 = 3_800_000_000;
 /// How many numbers a row counts as that is judged at a node. At most as many nodes count as most budgets have.
 const A_ROW: u64 = 2;
 
-/// How many hundredths of what is left the first solution takes at most, and each dive, scout and merge.
+/// How many hundredths of what is left the first solution takes at most, also where it begins from multipliers of the
+/// smoothed dual, and each dive, scout and merge.
 const FIRST_SHARE: u64 = 50;
+
+const LARGE_SHARE: u64 = 25;
 
 const DIVE_SHARE: u64 = 10;
 
 const SCOUT_SHARE: u64 = 15;
 
 const MERGE_SHARE: u64 = 15;
+
+/// Scouts who go at once, as long as they find a better plan each time.
+#[derive(Clone, Copy)]
+struct Party {
+    /// The first one's number, how many go, and how often at most, with numbers of their own.
+    first: u64,
+    count: u64,
+    times: u64,
+    /// How many hundredths of the work that is left each of them may do, and how those anneal who do.
+    share: u64,
+    cooling: Cooling,
+}
 
 /// Drafts by the relaxation of all rows, as this crate does.
 #[derive(Clone, Copy)]
@@ -137,12 +172,18 @@ impl<'a> Drafting<'a> {
     }
 
     /// Solves the relaxation from this lawful plan on, begins the tree there, and finds the regrets.
-    fn begin(&mut self, held: &[Option<u32>]) -> Made<()> {
+    fn begin<R: Threads + Sync>(&mut self, rt: &R, held: &[Option<u32>]) -> Made<()> {
         let table = self.regrets.table;
-        let share = self.tree.allowance.share(FIRST_SHARE);
+        let is_large = is_large(table);
+        let part = if is_large { LARGE_SHARE } else { FIRST_SHARE };
+        let share = self.tree.allowance.share(part);
         let relaxation = &mut self.relaxation;
         relaxation.begin(table, held, &[], share)?;
-        solve(self.alloc, table, relaxation)?;
+        if is_large {
+            solve_large(rt, self.alloc, table, relaxation, self.workers)?;
+        } else {
+            solve(self.alloc, table, relaxation)?;
+        }
         self.tree.root(table, relaxation)?;
         self.tree.allowance.settle(share, relaxation.allowance());
         self.regrets.fill(self.tree.multipliers(0))
@@ -155,8 +196,21 @@ impl<'a> Drafting<'a> {
         held: &[Option<u32>],
         budget: usize,
     ) -> Made<Draft> {
-        self.begin(held)?;
+        self.begin(rt, held)?;
         self.make_plans()?;
+        if self.is_wide() {
+            self.send(rt, AHEAD)?;
+            self.grow(rt, budget)?;
+        } else {
+            self.grow_well(rt, budget)?;
+        }
+        let none = DraftTree::new(self.alloc, self.tree.allowance);
+        Ok(replace(&mut self.tree, none).draft)
+    }
+
+    /// Grows the tree to so many nodes, and looks for better plans before most of them, unless the first ones close much
+    /// of the gap.
+    fn grow_well<R: Threads + Sync>(&mut self, rt: &R, budget: usize) -> Made<()> {
         let first = self.tree.draft.bound;
         self.grow(rt, budget.min(PROBE))?;
         let closed = self.tree.draft.bound.saturating_sub(first);
@@ -169,8 +223,13 @@ impl<'a> Drafting<'a> {
                 self.grow(rt, budget)?;
             }
         }
-        let none = DraftTree::new(self.alloc, self.tree.allowance);
-        Ok(replace(&mut self.tree, none).draft)
+        Ok(())
+    }
+
+    /// Whether there are so many rows and such a gap that plans are sought ahead of the tree.
+    fn is_wide(&self) -> bool {
+        let table = self.regrets.table;
+        is_large(table) && self.tree.gap(self.tree.draft.bound) >= table.penalty()
     }
 
     /// Makes a plan from the solution and one by a dive.
@@ -233,54 +292,62 @@ impl<'a> Drafting<'a> {
     /// Has scouts look for plans, and merges these. Scouts anneal where the gap is so wide that a rider more might be
     /// served.
     fn make_more_plans<R: Threads + Sync>(&mut self, rt: &R) -> Made<()> {
-        if self.tree.gap(self.tree.draft.bound) < self.regrets.table.penalty() / 4 {
-            let count = if self.is_near() { FEW_SCOUTS } else { SCOUTS };
-            return self.scout(rt, None, 0..count);
+        if self.tree.gap(self.tree.draft.bound) >= self.regrets.table.penalty() / 4 {
+            return self.send(rt, MANY);
         }
+        let count = if self.is_near() { FEW_SCOUTS } else { SCOUTS };
+        let few = Party {
+            count,
+            times: 1,
+            ..MANY
+        };
+        self.scout(rt, None, few)
+    }
+
+    /// Sends a party, some of whom anneal, as often as it is to go and finds a better plan.
+    fn send<R: Threads + Sync>(&mut self, rt: &R, party: Party) -> Made<()> {
         let mut neighbours = RowNeighbours::new(self.alloc);
-        let made = self.scout_often(rt, &mut neighbours);
+        let made = self.send_on(rt, &mut neighbours, party);
         drop(neighbours);
         made
     }
 
-    /// Has many scouts look for plans, of whom most anneal, as long as a better plan is found each time.
-    fn scout_often<R: Threads + Sync>(
+    fn send_on<R: Threads + Sync>(
         &mut self,
         rt: &R,
         neighbours: &mut RowNeighbours,
+        party: Party,
     ) -> Made<()> {
         neighbours.fill(self.regrets.table)?;
-        for time in 0..MOST_TIMES {
+        let mut party = party;
+        for _ in 0..party.times {
             let cost = self.tree.draft.cost;
-            let first = MANY_SCOUTS.saturating_mul(time);
-            self.scout(
-                rt,
-                Some(neighbours),
-                first..first.saturating_add(MANY_SCOUTS),
-            )?;
+            self.scout(rt, Some(neighbours), party)?;
             if self.tree.draft.cost >= cost {
                 break;
             }
+            party.first = party.first.saturating_add(MANY.count);
         }
         Ok(())
     }
 
-    /// Has the scouts of these numbers look for plans, and merges these.
+    /// Has these scouts look for plans once, and merges these.
     fn scout<R: Threads + Sync>(
         &mut self,
         rt: &R,
         neighbours: Option<&RowNeighbours>,
-        numbers: Range<u64>,
+        party: Party,
     ) -> Made<()> {
-        let share = self.tree.allowance.share(SCOUT_SHARE);
+        let share = self.tree.allowance.share(party.share);
         let start = Start {
             regrets: &self.regrets,
             relaxation: &self.relaxation,
             tree: &self.tree,
             neighbours,
+            cooling: party.cooling,
             share,
         };
-        let scouts = send_scouts(rt, self.alloc, start, numbers, self.workers)?;
+        let scouts = send_scouts(rt, self.alloc, start, party, self.workers)?;
         let mut left = share;
         for scout in &scouts {
             if !scout.is_done {
@@ -310,7 +377,7 @@ impl<'a> Drafting<'a> {
     /// Takes the best plan of a merge, if it is better, as a draft of its rows finds it.
     fn take<R: Threads + Sync>(&mut self, rt: &R, part: &mut Drafting, merge: &Merge) -> Made<()> {
         let share = self.tree.allowance.share(MERGE_SHARE);
-        part.begin(&merge.plan)?;
+        part.begin(rt, &merge.plan)?;
         part.tree.offer(&merge.plan, self.tree.draft.cost)?;
         part.make_plans()?;
         part.grow(rt, MERGE_NODES)?;
@@ -321,16 +388,17 @@ impl<'a> Drafting<'a> {
     }
 }
 
-/// Has the scouts of these numbers look for plans, by at most so many workers.
+/// Has these scouts look for plans, by at most so many workers.
 fn send_scouts<R: Threads + Sync>(
     rt: &R,
     alloc: Global,
     start: Start,
-    numbers: Range<u64>,
+    party: Party,
     workers: u8,
 ) -> Made<Vec<Scout>> {
     let mut scouts: Vec<Scout> = Vec::new(alloc);
-    for number in numbers {
+    for place in 0..party.count {
+        let number = party.first.saturating_add(place);
         scouts.push(Scout::new(alloc, number))?;
     }
     let workers = usize::from(workers).max(1);
@@ -358,6 +426,29 @@ fn solve(alloc: Global, table: &RowTable, relaxation: &mut Relaxation) -> Made<(
         return ascend_on(alloc, table, relaxation);
     }
     Ok(())
+}
+
+/// Whether there are so many rows and conditions that a relaxation begins best from multipliers that are nearly right.
+fn is_large(table: &RowTable) -> bool {
+    table.row_count() > LARGE && table.condition_count() > MANY_CONDITIONS
+}
+
+/// Solves the relaxation of many rows from the multipliers of the smoothed dual on, or takes these where it tires.
+fn solve_large<R: Threads + Sync>(
+    rt: &R,
+    alloc: Global,
+    table: &RowTable,
+    relaxation: &mut Relaxation,
+    workers: u8,
+) -> Made<()> {
+    let first = smoothed_multipliers(rt, alloc, table, workers)?;
+    relaxation.count_looks(first.rows);
+    relaxation.fill_pool(table, &first.multipliers, MOST_ROWS)?;
+    relaxation.set_costs_left(table, &first.multipliers, SMALL_BOX);
+    relaxation.pivot_on(table)?;
+    relaxation.set_costs_left(table, &[], i64::MAX);
+    relaxation.solve(table, i64::MAX, MOST_ROWS, u32::MAX)?;
+    try_multipliers(table, relaxation, &first.multipliers)
 }
 
 /// Goes on from a relaxation's multipliers by an ascent.

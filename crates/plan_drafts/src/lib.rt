@@ -21,12 +21,13 @@
 //! Main clauses: none, only what safety needs.
 #![tactic(auto)]
 
-// Rooms, each names only those above it: relaxation, plans, tree.
+// Rooms, each names only those above it: dual, relaxation, plans, tree.
 
 mod allowance;
 mod costs;
 mod diving;
 mod draft;
+mod dual;
 mod merge;
 mod plans;
 mod relaxation;

@@ -2,7 +2,7 @@
 //! its number alone.
 use crate::allowance::Allowance;
 use crate::diving::dive;
-use crate::plans::annealing::anneal;
+use crate::plans::annealing::{Cooling, anneal};
 use crate::plans::plans::Plans;
 use crate::plans::regrets::Regrets;
 use crate::plans::row_neighbours::RowNeighbours;
@@ -28,6 +28,7 @@ pub struct Start<'a> {
     pub tree: &'a DraftTree,
     /// What annealings need, where one rider more might be served.
     pub neighbours: Option<&'a RowNeighbours>,
+    pub cooling: Cooling,
     /// What work each may do.
     pub share: Allowance,
 }
@@ -63,8 +64,16 @@ impl Scout {
         self.plans.adopt(start.regrets, best)?;
         let plan = match start.neighbours {
             Some(neighbours) if self.number % TURNS > 0 => {
-                let left = &mut self.left;
-                Some(anneal(alloc, start.regrets, neighbours, best, self.number, left)?)
+                let (cooling, left) = (start.cooling, &mut self.left);
+                Some(anneal(
+                    alloc,
+                    start.regrets,
+                    neighbours,
+                    best,
+                    self.number,
+                    cooling,
+                    left,
+                )?)
             }
             _ => {
                 let (table, relaxation) = (start.regrets.table, &mut self.relaxation);

@@ -14,20 +14,39 @@ use row_tables::lists::short;
 use row_tables::{Draws, Made};
 use std::alloc::Global;
 
-/// How many moves there are at most, and at most for each row of the table; how many numbers one counts as, beside one
-/// for each vehicle; and how many have the same temperature.
-const MOVES: u64 = 900_000;
+/// How an annealing goes: how many moves there are at most, how many hundredths of the work it may do, since the rest is
+/// for neighbourhoods, and from which temperature it cools to which, in seconds.
+#[derive(Clone, Copy)]
+pub struct Cooling {
+    pub moves: u64,
+    pub part: u64,
+    pub warm: i64,
+    pub cool: i64,
+}
 
+/// As most go: neighbourhoods do the rest.
+pub const SHORT: Cooling = Cooling {
+    moves: 900_000,
+    part: 100,
+    warm: 300,
+    cool: 150,
+};
+
+/// As they go where many rows and a wide gap are worth it.
+pub const LONG: Cooling = Cooling {
+    moves: 3_000_000,
+    part: 75,
+    warm: 300,
+    cool: 20,
+};
+
+/// How many moves there are at most for each row of the table; how many numbers one counts as, beside one for each
+/// vehicle; and how many have the same temperature.
 const MOVES_A_ROW: u64 = 150;
 
 const A_MOVE: u64 = 100;
 
 const MOVES_EACH: u64 = 1024;
-
-/// The temperature at the start, in seconds, and at the end. Neighbourhoods do the rest.
-const WARM: i64 = 300;
-
-const COOL: i64 = 150;
 
 /// What the seeds of draws lie above the numbers of those who anneal.
 const SEED: u64 = 1500;
@@ -67,6 +86,7 @@ pub fn anneal<'a>(
     neighbours: &'a RowNeighbours,
     rows: &[Option<u32>],
     seed: u64,
+    cooling: Cooling,
     allowance: &mut Allowance,
 ) -> Made<Plan> {
     let mut annealing = Annealing {
@@ -83,13 +103,18 @@ pub fn anneal<'a>(
         least: 0,
         found: Vec::new(alloc),
     };
-    let done = annealing.run(rows, allowance);
+    let done = annealing.run(rows, cooling, allowance);
     whole(annealing.found, done)
 }
 
 impl Annealing<'_> {
     /// Makes all moves from these rows while it cools.
-    fn run(&mut self, rows: &[Option<u32>], allowance: &mut Allowance) -> Made<()> {
+    fn run(
+        &mut self,
+        rows: &[Option<u32>],
+        cooling: Cooling,
+        allowance: &mut Allowance,
+    ) -> Made<()> {
         self.present.begin(self.regrets.table)?;
         reset(&mut self.marks, self.regrets.table.vehicle_count(), 0)?;
         for row in rows {
@@ -101,15 +126,18 @@ impl Annealing<'_> {
         let most = (self.regrets.table.row_count() as u64).saturating_mul(MOVES_A_ROW);
         let vehicles = self.regrets.table.vehicle_count() as u64;
         let each = vehicles.saturating_add(A_MOVE);
-        let dear = allowance.rest.checked_div(each).unwrap_or(0);
-        let moves = MOVES.min(most).min(dear);
+        let work = allowance.rest.saturating_mul(cooling.part) / 100;
+        let dear = work.checked_div(each).unwrap_or(0);
+        let moves = cooling.moves.min(most).min(dear);
         let stages = moves / MOVES_EACH;
         allowance.spend(moves.saturating_mul(each));
         for number in 0..stages.saturating_mul(MOVES_EACH) {
             let part = ((number / MOVES_EACH) << 20).checked_div(stages);
             let part = part.unwrap_or(0).min(1 << 20) as i64;
-            let cooled = (WARM - COOL).saturating_mul(part) >> 10;
-            self.attempt((WARM * 1024).saturating_sub(cooled))?;
+            let range = cooling.warm.saturating_sub(cooling.cool);
+            let cooled = range.saturating_mul(part) >> 10;
+            let warm = cooling.warm.saturating_mul(1024);
+            self.attempt(warm.saturating_sub(cooled))?;
         }
         if self.least < 0 {
             return Ok(());
