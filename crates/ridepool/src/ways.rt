@@ -14,12 +14,12 @@ use travel_times::{LabelWays, Labels, Ways};
 /// The travel times of a network, by labels where there are any, and else by searches until a hierarchy pays. Contracts see it
 /// as the network.
 #[derive(Drop)]
-pub(crate) struct NamedWays<'a> {
-    rows: HierarchyWays<'a>,
+pub(crate) struct NamedWays<'a, G: Gate> {
+    rows: HierarchyWays<'a, G>,
     labels: Option<LabelWays<'a>>,
 }
 
-impl<'a> Model for NamedWays<'a> {
+impl<'a, G: Gate> Model for NamedWays<'a, G> {
     ghost use Rattle.std.specs.Prelude.{◌≡◌, IfSome};
     ghost use Rattle.road_network.specs.Roads.{Roads};
 
@@ -30,7 +30,7 @@ impl<'a> Model for NamedWays<'a> {
     ghost invariant = { λ ways. IfSome ways.labels (λ labels. labels ≡ ways.rows) };
 }
 
-impl Ways for NamedWays<'_> {
+impl<G: Gate> Ways for NamedWays<'_, G> {
     ghost roads = { λ ways. ways };
 
     fn table<R: Threads + Sync>(
@@ -46,16 +46,16 @@ impl Ways for NamedWays<'_> {
     }
 }
 
-/// The ways that the settings name. Labels are made here, and the gate hears of it.
+/// The ways that the settings name. Labels are made here. The gate hears how far these or a hierarchy are.
 pub(crate) fn ways_by<'a, G: Gate>(
     alloc: Global,
     network: &'a Network,
     settings: &Settings,
-    gate: &G,
-) -> Result<NamedWays<'a>, OutOfMemory>
+    gate: &'a G,
+) -> Result<NamedWays<'a, G>, OutOfMemory>
     ensures { IfOk result (λ ways. ways ≡ network.entry.now) }
 {
-    let rows = HierarchyWays::of(network, settings.workers);
+    let rows = HierarchyWays::of(network, settings.workers, gate);
     let labels = match settings.times {
         TimesWay::Rows => None,
         TimesWay::Labels => {

@@ -11,7 +11,7 @@
 //! A caller, as `ridepool` has its travel times where no labels are asked for:
 //!
 //! ```
-//! let ways = HierarchyWays::of(network, settings.workers);
+//! let ways = HierarchyWays::of(network, settings.workers, gate);
 //! ```
 //!
 //! Main clauses: `HierarchyWays::of`; `Hierarchy::build`; the laws `a_way_up_and_down_is_sound` and

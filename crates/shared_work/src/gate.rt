@@ -15,6 +15,9 @@ pub trait Gate: Sync {
     /// So many of all nodes are labelled, by labels of so many bytes.
     fn labelled(&self, _nodes: usize, _all: usize, _bytes: u64) {}
 
+    /// So many of all nodes are contracted, for travel times by a hierarchy.
+    fn contracted(&self, _nodes: usize, _all: usize) {}
+
     /// So many of all rounds of a day are driven.
     fn driven(&self, _rounds: usize, _all: usize) {}
 }

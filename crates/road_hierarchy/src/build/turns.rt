@@ -4,6 +4,7 @@ use crate::build::draft::{Draft, GIVEN};
 use crate::build::lists::number_of;
 use pool_base::OutOfMemory;
 use road_network::{Arc, Network};
+use shared_work::Gate;
 use std::alloc::Global;
 use std::cmp::Reverse;
 use std::collections::BinaryHeap;
@@ -74,16 +75,17 @@ impl Turns {
 }
 
 /// A draft of a hierarchy, for which so many arcs are looked at; `None` where that isn't enough. In the last place is how many
-/// may still be looked at.
-pub(crate) fn draft_of(
+/// may still be looked at. A gate hears at times how many nodes took their turns.
+pub(crate) fn draft_of<G: Gate>(
     alloc: Global,
     network: &Network,
     rest: u64,
+    gate: &G,
 ) -> Result<Option<(Draft, u64)>, OutOfMemory> {
     let mut contraction = Contraction::new(alloc, network, rest)?;
     let mut turns = Turns::new(alloc, network.node_count())?;
     let mut queue = queue_of(alloc, &mut contraction, network.node_count())?;
-    take_turns(&mut contraction, &mut turns, &mut queue)?;
+    take_turns(&mut contraction, &mut turns, &mut queue, gate)?;
     if !queue.is_empty() {
         return Ok(None);
     }
@@ -107,12 +109,14 @@ fn queue_of(
 }
 
 /// Lets nodes take their turns by their worth, which is found anew when a node comes first.
-fn take_turns(
+fn take_turns<G: Gate>(
     contraction: &mut Contraction,
     turns: &mut Turns,
     queue: &mut BinaryHeap<Reverse<(i64, u32)>>,
+    gate: &G,
 ) -> Result<(), OutOfMemory> {
-    for _ in 0..queue.len().saturating_mul(OFTEN) {
+    let all = queue.len();
+    for _ in 0..all.saturating_mul(OFTEN) {
         if contraction.rest == 0 {
             return Ok(());
         }
@@ -124,11 +128,19 @@ fn take_turns(
         if is_next(queue, worth) {
             turns.take(contraction, node)?;
             contraction.contract(node)?;
+            tell(gate, all.saturating_sub(queue.len()), all);
         } else {
             queue.push(Reverse((worth, node)))?;
         }
     }
     Ok(())
+}
+
+/// Tells the gate how many nodes are contracted, at each 64th.
+fn tell<G: Gate>(gate: &G, contracted: usize, all: usize) {
+    if contracted % 64 == 0 {
+        gate.contracted(contracted, all);
+    }
 }
 
 /// Whether no node that waits has less worth.

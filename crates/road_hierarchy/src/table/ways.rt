@@ -8,6 +8,7 @@ use crate::table::cells::cells_between;
 use crate::table::same::are_same;
 use pool_base::{NodeId, OutOfMemory, Times};
 use road_network::Network;
+use shared_work::Gate;
 use std::alloc::Global;
 use std::marker::Model;
 use std::sync::OnceLock;
@@ -21,9 +22,11 @@ const ENOUGH: u64 = 500;
 /// The travel times of a network: by searches at first, and once enough rows were asked for by a hierarchy, if one can be
 /// made with as much work as is worth it. Contracts see it as the network: nothing hangs on which way it goes.
 #[derive(Drop)]
-pub struct HierarchyWays<'a> {
+pub struct HierarchyWays<'a, G: Gate> {
     network: &'a Network,
     workers: u8,
+    /// It hears how far the hierarchy is.
+    gate: &'a G,
     /// How many rows were asked for.
     asked: AtomicU64,
     /// Whether some caller makes the hierarchy, or made it.
@@ -31,7 +34,7 @@ pub struct HierarchyWays<'a> {
     hierarchy: OnceLock<Hierarchy<'a>>,
 }
 
-impl<'a> Model for HierarchyWays<'a> {
+impl<'a, G: Gate> Model for HierarchyWays<'a, G> {
     ghost use Rattle.road_network.specs.Roads.{Roads};
 
     ghost Value = { Roads };
@@ -39,14 +42,15 @@ impl<'a> Model for HierarchyWays<'a> {
     ghost view = { λ ways. ways.network.now };
 }
 
-impl<'a> HierarchyWays<'a> {
+impl<'a, G: Gate> HierarchyWays<'a, G> {
     /// The ways of a network, of which no row was asked for.
-    pub fn of(network: &'a Network, workers: u8) -> HierarchyWays<'a>
+    pub fn of(network: &'a Network, workers: u8, gate: &'a G) -> HierarchyWays<'a, G>
         ensures { result ≡ network.entry.now }
     {
         HierarchyWays {
             network,
             workers,
+            gate,
             asked: AtomicU64::new(0),
             begun: AtomicBool::new(false),
             hierarchy: OnceLock::new(),
@@ -60,15 +64,17 @@ impl<'a> HierarchyWays<'a> {
             return None;
         }
         if !self.begun.swap(true, Ordering::SeqCst) {
-            if let Ok(Some(hierarchy)) = Hierarchy::build(alloc, self.network) {
+            if let Ok(Some(hierarchy)) = Hierarchy::build(alloc, self.network, self.gate) {
                 let _ = self.hierarchy.try_set(hierarchy);
             }
+            let all = self.network.node_count();
+            self.gate.contracted(all, all);
         }
         self.hierarchy.get()
     }
 }
 
-impl Ways for HierarchyWays<'_> {
+impl<G: Gate> Ways for HierarchyWays<'_, G> {
     ghost roads = { λ ways. ways };
 
     fn table<R: Threads + Sync>(

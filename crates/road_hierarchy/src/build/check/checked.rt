@@ -5,6 +5,7 @@ use crate::build::draft::Draft;
 use crate::build::turns::draft_of;
 use pool_base::OutOfMemory;
 use road_network::{Arc, Network};
+use shared_work::Gate;
 use std::alloc::Global;
 use std::marker::Model;
 
@@ -35,12 +36,17 @@ impl<'a> Model for Hierarchy<'a> {
 const SEARCHES: u64 = 3_000;
 
 impl<'a> Hierarchy<'a> {
-    /// The hierarchy of a network, where it can be made with as much work as it is worth.
-    pub fn build(alloc: Global, network: &'a Network) -> Result<Option<Hierarchy<'a>>, OutOfMemory>
+    /// The hierarchy of a network, where it can be made with as much work as it is worth. A gate hears at times how far it is.
+    pub fn build<G: Gate>(
+        alloc: Global,
+        network: &'a Network,
+        gate: &G,
+    ) -> Result<Option<Hierarchy<'a>>, OutOfMemory>
         ensures { IfOk result (λ found. IfSome found (λ hierarchy. hierarchy ≡ network.entry.now)) }
     {
         let search = network.node_count().saturating_add(network.arc_count());
-        match draft_of(alloc, network, (search as u64).saturating_mul(SEARCHES))? {
+        let most = (search as u64).saturating_mul(SEARCHES);
+        match draft_of(alloc, network, most, gate)? {
             Some((draft, rest)) => Hierarchy::checked(alloc, network, draft, rest),
             None => Ok(None),
         }
