@@ -183,7 +183,7 @@ def test_a_little_lead_of_a_vehicle_moves_no_clock():
     from ridepool.sessions.state import Vehicle
 
     lines = ["ridepool report 1", "settings wait=120", "network nodes=5 arcs=8", "fleet vehicles=1", "round 0",
-             "0 0 seal 100 sealed 1", "1 0 close 1 closed", "batch 1", "row 1 0", "overflow", "end", "2 13 report 1 1 1500 placed",
+             "0 0 seal 100 sealed 1", "1 0 close 1 closed", "batch 1", "row 1 0", "overflow", "end", "2 13 report 1 3 1500 placed",
              "3 13 report 1 1 900000 refused unknown-node"]
     book, slow = Book([Vehicle(1, 4, 1, 0)]), Book([Vehicle(1, 4, 1, 0)])
     changes = [it for it in map(slow.line, lines) if it is not None]
